@@ -1,0 +1,9 @@
+-- All marked cards of document 01 hold, by computation.
+use mathlib.Core.Path.{refl}
+use Rattle.rules.specs.Rows.{stepOf}
+use Rattle.rules.specs.Tables.{tableFault}
+use Rattle.rules.specs.Cards.{CardsHold}
+
+pub cards-hold : CardsHold
+unfolding stepOf tableFault
+cards-hold = refl

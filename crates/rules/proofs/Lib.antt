@@ -1,0 +1,2 @@
+-- The laws about the rules, bottom first.
+pub mod Cards

@@ -1,0 +1,33 @@
+-- What a construction has to show, stated once for every kind of memory; demand 3 follows from it (proofs/Demand3).
+--     memoryAfter s k q m w      the memory m carried from q along the letters of w
+--     largestAlong s k q m w     the largest priority on that way
+--     Lawful s k good Fits       a keeper k over the system s decides `good`, a condition on sets of transitions; Fits q m says that m is
+--                                a memory that can stand at q
+use mathlib.Core.Path.{_≡_}
+use mathlib.Core.Bool.{Bool, true}
+use mathlib.Core.List.{List, [], _∷_}
+use Prim.Native.Nat.{ℕ, _<_}
+use Rattle.rules.specs.Basics.{SameSet, larger, isEven}
+use Rattle.rules.specs.Systems.{System, isInside, Path}
+use Rattle.rules.specs.Runs.{Taken, passFrom}
+use Rattle.rules.specs.Rows.{Keeper}
+
+abbrev pub memoryAfter : {M : Type 0} → System → Keeper M → ℕ → M → List ℕ → M
+memoryAfter s k q m [] = m
+memoryAfter s k q m (a ∷ w) = memoryAfter s k (s .go q a) (k .move q a m) w
+
+abbrev pub largestAlong : {M : Type 0} → System → Keeper M → ℕ → M → List ℕ → ℕ
+largestAlong s k q m [] = 0
+largestAlong s k q m (a ∷ w) = larger (k .prio q a m) (largestAlong s k (s .go q a) (k .move q a m) w)
+
+pub record Lawful {M : Type 0} (s : System) (k : Keeper M) (good : List Taken → Bool) (Fits : ℕ → M → Type 0) : Type 0 where
+  -- sameness is equality
+  pub same-equal : (m m′ : M) → k .same m m′ ≡ true → m ≡ m′
+  pub same-refl : (m : M) → k .same m m ≡ true
+  -- every memory that is met fits the state where it is met
+  pub fits-enter : (q : ℕ) → q < s .states → Fits q (k .enter q)
+  pub fits-move : (q a : ℕ) (m : M) → q < s .states → a < s .letters → isInside s q a ≡ true → Fits q m → Fits (s .go q a) (k .move q a m)
+  -- the condition looks at which transitions there are, and not at how often or in what order
+  pub set-only : (xs ys : List Taken) → SameSet xs ys → good xs ≡ good ys
+  -- a closed walk that carries the memory back to itself has an even largest priority exactly if it satisfies the condition
+  pub loop : (q : ℕ) (m : M) (a : ℕ) (w : List ℕ) → Path s q (a ∷ w) q → Fits q m → memoryAfter s k q m (a ∷ w) ≡ m → isEven (largestAlong s k q m (a ∷ w)) ≡ good (passFrom s q (a ∷ w))

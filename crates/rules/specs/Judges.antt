@@ -1,0 +1,87 @@
+-- Both judges, their refusals, and the rest of a piece.
+--     Answer                     a judge's answer as document 01's number and value: 0 accepts, 1 rejects, 2 stops with the letters read,
+--                                3 refused with the refusal's number
+--     judgedBy s q lead l good   stops, or accepts exactly if the recurring transitions are good
+--     satisfiesPair, satisfies   a set of transitions satisfies a pair (a Rabin pair), the table
+--     paritySystem n m ts        the transition system of a parity table of n rows
+--     parityGood m ps            the largest priority of a set of transitions is even
+--     rabinRun, parityRun        the answers to a word of letters, of any length
+--     wordFault m lead l         10 and 9;  parityFault  11
+--     rabinJudge, parityJudge    the answers with their refusals
+--     restOf lead l i            from place i of the word to the end of its piece
+use mathlib.Core.Bool.{Bool, not, _&&_, _||_}
+use mathlib.Core.List.{List}
+use Prim.Native.Nat.{ℕ, suc, _-_, _*_}
+use lib.Dec.{eqb, ltb, leb}
+use lib.ListN.{length, getD, take, drop}
+use Rattle.rules.specs.Basics.{pick, any, anyBelow, firstOf, when, largest, isEven}
+use Rattle.rules.specs.Limits.{maxLetters, maxRows, maxPiece, noRow}
+use Rattle.rules.specs.Refusals as Refusal
+use Rattle.rules.specs.Systems.{System}
+use Rattle.rules.specs.Runs.{Taken, settled, recurring}
+use Rattle.rules.specs.Tables.{Table, cell, tableOf, tableFault, targetFault, systemOf, prohibits, requires}
+
+pub record Answer : Type 0 where
+  pub word : ℕ
+  pub value : ℕ
+
+abbrev pub accepts : Answer
+accepts = record { word = 0; value = 0 }
+
+abbrev pub rejects : Answer
+rejects = record { word = 1; value = 0 }
+
+abbrev pub stops : ℕ → Answer
+stops n = record { word = 2; value = n }
+
+abbrev pub refused : ℕ → Answer
+refused n = record { word = 3; value = n }
+
+abbrev pub judgedBy : System → ℕ → List ℕ → List ℕ → (List Taken → Bool) → Answer
+judgedBy s q lead l good = pick (settled s q lead l .stopped) (stops (settled s q lead l .read)) (pick (good (recurring s q lead l)) accepts rejects)
+
+-- the Rabin table
+abbrev pub satisfiesPair : Table → ℕ → List Taken → Bool
+satisfiesPair t i xs = not (any (λ x. prohibits t (x .from) (x .by) i) xs) && any (λ x. requires t (x .from) (x .by) i) xs
+
+abbrev pub satisfies : Table → List Taken → Bool
+satisfies t xs = anyBelow (t .pairs) (λ i. satisfiesPair t (suc i) xs)
+
+abbrev pub rabinRun : Table → List ℕ → List ℕ → Answer
+rabinRun t lead l = judgedBy (systemOf t) (t .start) lead l (satisfies t)
+
+-- the parity table
+abbrev pub paritySystem : ℕ → ℕ → List ℕ → System
+paritySystem n m ts = record { states = n; letters = m; go = λ q a. getD ts (cell m q a) noRow }
+
+abbrev pub priorityAt : ℕ → List ℕ → Taken → ℕ
+priorityAt m ps x = getD ps (cell m (x .from) (x .by)) 0
+
+abbrev pub parityGood : ℕ → List ℕ → List Taken → Bool
+parityGood m ps xs = isEven (largest (priorityAt m ps) xs)
+
+abbrev pub parityRun : ℕ → ℕ → List ℕ → List ℕ → List ℕ → List ℕ → Answer
+parityRun n m ts ps lead l = judgedBy (paritySystem n m ts) 0 lead l (parityGood m ps)
+
+-- refusals
+abbrev pub noLetter : ℕ → List ℕ → Bool
+noLetter m w = any (λ a. leb m a) w
+
+abbrev pub wordFault : ℕ → List ℕ → List ℕ → ℕ
+wordFault m lead l = firstOf (when (eqb (length l) 0 || (ltb maxPiece (length lead) || ltb maxPiece (length l))) Refusal.loop) (when (noLetter m lead || noLetter m l) Refusal.letter)
+
+abbrev pub parityFault : ℕ → ℕ → List ℕ → List ℕ → ℕ
+parityFault n m ts ps = when (eqb n 0 || (ltb maxRows n || (eqb m 0 || (ltb maxLetters m || (ltb (length ts) (n * m) || (ltb (length ps) (n * m) || targetFault n noRow (take (n * m) ts))))))) Refusal.parity
+
+-- the answer behind a refusal, if there is one
+abbrev pub unlessRefused : ℕ → Answer → Answer
+unlessRefused f x = pick (leb 1 f) (refused f) x
+
+abbrev pub rabinJudge : List ℕ → List ℕ → List ℕ → Answer
+rabinJudge bs lead l = unlessRefused (firstOf (tableFault bs) (wordFault (tableOf bs .letters) lead l)) (rabinRun (tableOf bs) lead l)
+
+abbrev pub parityJudge : ℕ → ℕ → List ℕ → List ℕ → List ℕ → List ℕ → Answer
+parityJudge n m ts ps lead l = unlessRefused (firstOf (parityFault n m ts ps) (wordFault m lead l)) (parityRun n m ts ps lead l)
+
+abbrev pub restOf : List ℕ → List ℕ → ℕ → List ℕ
+restOf lead l i = pick (ltb i (length lead)) (drop i lead) (drop (i - length lead) l)

@@ -1,0 +1,14 @@
+-- The rules: document 01 as definitions, bottom first.
+pub mod Basics
+pub mod Limits
+pub mod Refusals
+pub mod Systems
+pub mod Runs
+pub mod Rows
+pub mod Records
+pub mod Constructions
+pub mod Tables
+pub mod Judges
+pub mod Claims
+pub mod Says
+pub mod Cards

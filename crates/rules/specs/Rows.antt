@@ -1,0 +1,108 @@
+-- Rows and their discovery, and the arrays of a table of rows; over any kind of row.
+--     Step                     what a row does by a letter: whether the transition is there, the row it leads to, its priority
+--     Plan                     what is explored: the letters, the first row, the step, and when two rows are the same
+--     numberOf g r rs          the number of the first row of rs that is the same as r, past the end for absent
+--     met g rs r a             rs after the row r is read by the letter a: its target added at the end, if it is there and absent
+--     foundBy f a g r rs       rs after r is read by the letters a, a + 1 .., f of them
+--     foundFrom f i g c rs     rs after the rows i, i + 1 .. are read, f of them at most, as long as there are such rows and no more than c
+--     rowsOf g c               the reachable rows in order of discovery, rows taken by number and letters rising within each; no
+--                              further row is read once there are more than c
+--     isFull g c               more than c rows were found
+--     allTargets, allPriorities     one list for each row, joined; a missing transition has the target `none`
+--     Row                      a source state with a memory
+--     Keeper                   a kind of memory: what it is where a component is entered, how it moves along an inside transition, the
+--                              priority of that transition, and when two memories are the same
+--     stepOf, planOf           the rows of a transition system with a keeper: missing, inside and crossing transitions, said once
+use mathlib.Core.Bool.{Bool, true, false, _&&_}
+use mathlib.Core.List.{List, [], _∷_, _++_, map}
+use Prim.Native.Nat.{ℕ, zero, suc}
+use lib.Dec.{eqb, ltb, leb}
+use lib.ListN.{length, getD}
+use Rattle.rules.specs.Basics.{pick, tabulate, joined}
+use Rattle.rules.specs.Systems.{System, isInside}
+
+pub record Step (A : Type 0) : Type 0 where
+  pub there : Bool
+  pub to : A
+  pub prio : ℕ
+
+pub record Plan (A : Type 0) : Type 0 where
+  pub letters : ℕ
+  pub first : A
+  pub step : A → ℕ → Step A
+  pub same : A → A → Bool
+
+abbrev pub placeOf : {A : Type 0} → (A → Bool) → List A → ℕ
+placeOf b [] = 0
+placeOf b (x ∷ xs) = elim (b x) [ true ↦ 0 | false ↦ suc (placeOf b xs) ]
+
+abbrev pub numberOf : {A : Type 0} → Plan A → A → List A → ℕ
+numberOf g r rs = placeOf (g .same r) rs
+
+abbrev pub met : {A : Type 0} → Plan A → List A → A → ℕ → List A
+met g rs r a = pick (g .step r a .there && leb (length rs) (numberOf g (g .step r a .to) rs)) (rs ++ (g .step r a .to ∷ [])) rs
+
+abbrev pub foundBy : {A : Type 0} → ℕ → ℕ → Plan A → A → List A → List A
+foundBy zero a g r rs = rs
+foundBy (suc f) a g r rs = foundBy f (suc a) g r (met g rs r a)
+
+abbrev pub foundFrom : {A : Type 0} → ℕ → ℕ → Plan A → ℕ → List A → List A
+foundFrom zero i g c rs = rs
+foundFrom (suc f) i g c rs = elim (ltb i (length rs) && leb (length rs) c) [ true ↦ foundFrom f (suc i) g c (foundBy (g .letters) 0 g (getD rs i (g .first)) rs) | false ↦ rs ]
+
+abbrev pub rowsOf : {A : Type 0} → Plan A → ℕ → List A
+rowsOf g c = foundFrom (suc c) 0 g c (g .first ∷ [])
+
+abbrev pub isFull : {A : Type 0} → Plan A → ℕ → Bool
+isFull g c = ltb c (length (rowsOf g c))
+
+-- the arrays
+abbrev pub targetNumber : {A : Type 0} → Plan A → ℕ → List A → A → ℕ → ℕ
+targetNumber g none rs r a = pick (g .step r a .there) (numberOf g (g .step r a .to) rs) none
+
+abbrev pub allTargets : {A : Type 0} → Plan A → ℕ → List A → List ℕ
+allTargets g none rs = joined (λ r. tabulate (g .letters) 0 (targetNumber g none rs r)) rs
+
+abbrev pub allPriorities : {A : Type 0} → Plan A → List A → List ℕ
+allPriorities g rs = joined (λ r. tabulate (g .letters) 0 (λ a. g .step r a .prio)) rs
+
+-- rows of a transition system
+pub record Row (M : Type 0) : Type 0 where
+  pub source : ℕ
+  pub memory : M
+
+abbrev pub row : {M : Type 0} → ℕ → M → Row M
+row q m = record { source = q; memory = m }
+
+abbrev pub sources : {M : Type 0} → List (Row M) → List ℕ
+sources rs = map (λ r. r .source) rs
+
+pub record Keeper (M : Type 0) : Type 0 where
+  pub enter : ℕ → M
+  pub move : ℕ → ℕ → M → M
+  pub prio : ℕ → ℕ → M → ℕ
+  pub same : M → M → Bool
+
+abbrev pub missingPriority : ℕ
+missingPriority = 0
+
+abbrev pub crossingPriority : ℕ
+crossingPriority = 1
+
+unfoldable pub stepOf : {M : Type 0} → System → Keeper M → Row M → ℕ → Step (Row M)
+stepOf s k r a =
+    let q = r .source in
+    let x = s .go q a in
+    pick
+      (leb (s .states) x)
+      (record { there = false; to = r; prio = missingPriority })
+      (pick
+        (isInside s q a)
+        (record { there = true; to = row x (k .move q a (r .memory)); prio = k .prio q a (r .memory) })
+        (record { there = true; to = row x (k .enter x); prio = crossingPriority }))
+
+abbrev pub sameRow : {M : Type 0} → Keeper M → Row M → Row M → Bool
+sameRow k r r′ = eqb (r .source) (r′ .source) && k .same (r .memory) (r′ .memory)
+
+abbrev pub planOf : {M : Type 0} → System → ℕ → Keeper M → Plan (Row M)
+planOf s start k = record { letters = s .letters; first = row start (k .enter start); step = stepOf s k; same = sameRow k }

@@ -1,0 +1,94 @@
+-- Looped words and runs, recurring transitions, walks; over any transition system.
+-- A looped word (an ultimately periodic word) is a lead-in and a loop that is repeated for ever.
+--     At                         where a run stands: stopped or not, the state, the letters read
+--     reads s x a                one letter more: a run that meets no transition stops where it stands, and that letter is not counted
+--     goesBy s x w               the letters of w, one after the other
+--     Taken                      a transition, as the state that it leaves and its letter
+--     passFrom s p w             the transitions taken in reading w from p
+--     settled s q lead l         the run from q after the lead-in and as many repetitions of the loop as there are states
+--     recurring s q lead l       the transitions taken in as many repetitions more: of that many repetitions some begins at
+--                                a state for the second time, so these are just the transitions that recur (`recurs-view`)
+--     MeetsMissing s q lead l i  in the word's run from q a missing transition is met after i letters
+--     TakenIn s q lead l r x     x is taken in the repetition after the r-th
+--     Recurs s q lead l x        for every r, x is taken in some repetition after the r-th
+--     goesFrom s p xs            xs is a walk from p: transitions that are there, each leaving the state to which the one before leads
+--     endOf s p xs               the state to which the walk leads
+--     isClosedWalk s xs          xs is a walk, is not empty and leads back to the state that it leaves
+use mathlib.Core.Path.{_≡_}
+use mathlib.Core.Bool.{Bool, true, false, _&&_, _||_}
+use mathlib.Core.List.{List, [], _∷_, _++_}
+use Prim.Native.Nat.{ℕ, suc, _≤_, _<_}
+use lib.Dec.{eqb, ltb, leb}
+use lib.ListN.{length}
+use Rattle.rules.specs.Basics.{pick, repeated}
+use Rattle.rules.specs.Systems.{System, Path}
+
+pub record At : Type 0 where
+  pub stopped : Bool
+  pub place : ℕ
+  pub read : ℕ
+
+abbrev pub standing : Bool → ℕ → ℕ → At
+standing b p n = record { stopped = b; place = p; read = n }
+
+abbrev pub reads : System → At → ℕ → At
+reads s x a = pick (x .stopped || leb (s .states) (s .go (x .place) a)) (standing true (x .place) (x .read)) (standing false (s .go (x .place) a) (suc (x .read)))
+
+abbrev pub goesBy : System → At → List ℕ → At
+goesBy s x [] = x
+goesBy s x (a ∷ w) = goesBy s (reads s x a) w
+
+pub record Taken : Type 0 where
+  pub from : ℕ
+  pub by : ℕ
+
+abbrev pub taken : ℕ → ℕ → Taken
+taken p a = record { from = p; by = a }
+
+abbrev pub isTaken : Taken → Taken → Bool
+isTaken x y = eqb (x .from) (y .from) && eqb (x .by) (y .by)
+
+abbrev pub passFrom : System → ℕ → List ℕ → List Taken
+passFrom s p [] = []
+passFrom s p (a ∷ w) = taken p a ∷ passFrom s (s .go p a) w
+
+abbrev pub settled : System → ℕ → List ℕ → List ℕ → At
+settled s q lead l = goesBy s (standing false q 0) (lead ++ repeated (s .states) l)
+
+abbrev pub recurring : System → ℕ → List ℕ → List ℕ → List Taken
+recurring s q lead l = passFrom s (settled s q lead l .place) (repeated (s .states) l)
+
+-- what the computed run and the recurring transitions stand for, in document 01's words
+pub record MeetsMissing (s : System) (q : ℕ) (lead l : List ℕ) (i : ℕ) : Type 0 where
+  pub before : List ℕ
+  pub next : ℕ
+  pub later : List ℕ
+  pub repetitions : ℕ
+  pub place : ℕ
+  pub piece : before ++ (next ∷ later) ≡ lead ++ repeated repetitions l
+  pub path : Path s q before place
+  pub absent : s .states ≤ s .go place next
+  pub count : length before ≡ i
+
+pub record TakenIn (s : System) (q : ℕ) (lead l : List ℕ) (r : ℕ) (x : Taken) : Type 0 where
+  pub before : List ℕ
+  pub later : List ℕ
+  pub piece : before ++ (x .by ∷ later) ≡ l
+  pub path : Path s q (lead ++ (repeated r l ++ before)) (x .from)
+  pub present : s .go (x .from) (x .by) < s .states
+
+abbrev pub Recurs : System → ℕ → List ℕ → List ℕ → Taken → Type 0
+Recurs s q lead l x = (r : ℕ) → (k : ℕ) × (r ≤ k) × TakenIn s q lead l k x
+
+-- walks
+abbrev pub goesFrom : System → ℕ → List Taken → Bool
+goesFrom s p [] = true
+goesFrom s p (x ∷ xs) = eqb p (x .from) && (ltb (x .from) (s .states) && (ltb (x .by) (s .letters) && (ltb (s .go (x .from) (x .by)) (s .states) && goesFrom s (s .go (x .from) (x .by)) xs)))
+
+abbrev pub endOf : System → ℕ → List Taken → ℕ
+endOf s p [] = p
+endOf s p (x ∷ xs) = endOf s (s .go (x .from) (x .by)) xs
+
+abbrev pub isClosedWalk : System → List Taken → Bool
+isClosedWalk s [] = false
+isClosedWalk s (x ∷ xs) = goesFrom s (x .from) (x ∷ xs) && eqb (endOf s (x .from) (x ∷ xs)) (x .from)

@@ -1,0 +1,47 @@
+-- Transition systems: reach and components, for any number of states.
+--     System              states 0 .. states - 1, letters 0 .. letters - 1, and where a state goes by a letter;
+--                         a target that is no state means that there is no transition (a partial deterministic transition system)
+--     linked s p q        some letter leads from p to q
+--     via e k p q         a chain of links e leads from p to q, passing only through states below k (Warshall's closure)
+--     reaches s p q       p and q are equal, or a chain of transitions leads from p to q
+--     together s p q      p and q share a component (a strongly connected component)
+--     componentOf s q     the smallest state of q's component
+--     isInside s q a      the transition of q by a is there and both its ends share a component; if it is there and is not inside, it is crossing
+--     metWithin s b q     some inside transition of q's component passes the test b
+--     Path s p w q        the letters of w lead from p to q by transitions that are there
+use mathlib.Core.Bool.{Bool, _&&_, _||_}
+use mathlib.Core.List.{List, [], _∷_}
+use Prim.Native.Nat.{ℕ, zero, suc, _<_}
+use lib.Dec.{eqb, ltb}
+use Rattle.rules.specs.Basics.{anyBelow, least}
+
+pub record System : Type 0 where
+  pub states : ℕ
+  pub letters : ℕ
+  pub go : ℕ → ℕ → ℕ
+
+abbrev pub linked : System → ℕ → ℕ → Bool
+linked s p q = ltb q (s .states) && anyBelow (s .letters) (λ a. eqb (s .go p a) q)
+
+abbrev pub via : (ℕ → ℕ → Bool) → ℕ → ℕ → ℕ → Bool
+via e zero p q = e p q
+via e (suc k) p q = via e k p q || (via e k p k && via e k k q)
+
+abbrev pub reaches : System → ℕ → ℕ → Bool
+reaches s p q = eqb p q || via (linked s) (s .states) p q
+
+abbrev pub together : System → ℕ → ℕ → Bool
+together s p q = reaches s p q && reaches s q p
+
+abbrev pub componentOf : System → ℕ → ℕ
+componentOf s q = least (s .states) 0 (together s q)
+
+abbrev pub isInside : System → ℕ → ℕ → Bool
+isInside s q a = ltb (s .go q a) (s .states) && together s q (s .go q a)
+
+abbrev pub metWithin : System → (ℕ → ℕ → Bool) → ℕ → Bool
+metWithin s b q = anyBelow (s .states) (λ p. together s q p && anyBelow (s .letters) (λ a. isInside s p a && b p a))
+
+pub data Path (s : System) : ℕ → List ℕ → ℕ → Type 0 where
+  here : {p : ℕ} → Path s p [] p
+  step : {p a : ℕ} {w : List ℕ} {q : ℕ} → a < s .letters → s .go p a < s .states → Path s (s .go p a) w q → Path s p (a ∷ w) q

@@ -1,0 +1,98 @@
+-- The Rabin table of document 01: its bytes, its refusals, its components and its rows.
+--     Table                    sizes, start, targets by cell, marks two by two: the prohibited byte, then the required byte
+--     cell m q a               the number of the cell of state q and letter a
+--     tableOf bs               the table that the bytes say
+--     targetOf t q a           where q goes by a, noState if the transition is missing
+--     prohibits, requires      the transition of q by a has pair i's prohibited (required) bit: it is in the pair's Fin (Inf) set
+--     tableFault bs            the refusal of the bytes, 1 to 6 in document 01's order, 0 if the table is taken
+--     systemOf t               the table's transition system
+--     counts t q i             pair i counts in q's component: some inside transition of it has the required bit
+--     rising t q               the pairs that count in q's component, rising
+--     recordKeeper t           index appearance records as the memory of rows
+--     tablePlan t              the rows of the table's translation
+use mathlib.Core.Bool.{Bool, false, not, _&&_, _||_}
+use mathlib.Core.List.{List, [], _∷_, map}
+use Prim.Native.Nat.{ℕ, suc, _+_, _-_, _*_, _^_}
+use lib.Dec.{eqb, ltb, leb}
+use lib.ListN.{length, getD, take, drop}
+use Rattle.rules.specs.Basics.{any, firstOf, when, keep, tabulate, bit}
+use Rattle.rules.specs.Limits.{maxStates, maxLetters, maxPairs, headerSize, noState}
+use Rattle.rules.specs.Refusals as Refusal
+use Rattle.rules.specs.Systems.{System, metWithin}
+use Rattle.rules.specs.Records.{Marks, asTheyStood, moved, priority, decimal, sameOrder}
+use Rattle.rules.specs.Rows.{Keeper, Row, Plan, planOf}
+
+pub record Table : Type 0 where
+  pub states : ℕ
+  pub letters : ℕ
+  pub pairs : ℕ
+  pub start : ℕ
+  pub targets : List ℕ
+  pub marks : List ℕ
+
+abbrev pub cell : ℕ → ℕ → ℕ → ℕ
+cell m q a = q * m + a
+
+abbrev pub tableOf : List ℕ → Table
+tableOf bs =
+    let n = getD bs 0 0 in
+    let m = getD bs 1 0 in
+    record { states = n; letters = m; pairs = getD bs 2 0; start = getD bs 3 0; targets = take (n * m) (drop headerSize bs); marks = take (2 * (n * m)) (drop (headerSize + n * m) bs) }
+
+abbrev pub targetOf : Table → ℕ → ℕ → ℕ
+targetOf t q a = getD (t .targets) (cell (t .letters) q a) noState
+
+abbrev pub prohibits : Table → ℕ → ℕ → ℕ → Bool
+prohibits t q a i = bit (i - 1) (getD (t .marks) (2 * cell (t .letters) q a) 0)
+
+abbrev pub requires : Table → ℕ → ℕ → ℕ → Bool
+requires t q a i = bit (i - 1) (getD (t .marks) (suc (2 * cell (t .letters) q a)) 0)
+
+-- refusals
+abbrev pub sizesFault : ℕ → ℕ → ℕ → Bool
+sizesFault n m k = eqb n 0 || (ltb maxStates n || (eqb m 0 || (ltb maxLetters m || ltb maxPairs k)))
+
+abbrev pub tableLength : ℕ → ℕ → ℕ
+tableLength n m = headerSize + 3 * (n * m)
+
+-- a target neither a state nor the missing one; over a parity table's targets too
+abbrev pub targetFault : ℕ → ℕ → List ℕ → Bool
+targetFault n none ts = any (λ x. not (ltb x n || eqb x none)) ts
+
+-- a bit above pair k, or any bit on a missing transition
+abbrev pub marksFault : ℕ → List ℕ → List ℕ → Bool
+marksFault k [] ms = false
+marksFault k (x ∷ ts) ms = (not (ltb (getD ms 0 0) (2 ^ k) && ltb (getD ms 1 0) (2 ^ k)) || (eqb x noState && not (eqb (getD ms 0 0 + getD ms 1 0) 0))) || marksFault k ts (drop 2 ms)
+
+unfoldable pub tableFault : List ℕ → ℕ
+tableFault bs =
+    let t = tableOf bs in
+    firstOf (when (ltb (length bs) headerSize) Refusal.short)
+    (firstOf (when (sizesFault (t .states) (t .letters) (t .pairs)) Refusal.sizes)
+    (firstOf (when (ltb (length bs) (tableLength (t .states) (t .letters))) Refusal.short)
+    (firstOf (when (ltb (tableLength (t .states) (t .letters)) (length bs)) Refusal.long)
+    (firstOf (when (leb (t .states) (t .start)) Refusal.start)
+    (firstOf (when (targetFault (t .states) noState (t .targets)) Refusal.target)
+    (when (marksFault (t .pairs) (t .targets) (t .marks)) Refusal.marks))))))
+
+-- components and records
+abbrev pub systemOf : Table → System
+systemOf t = record { states = t .states; letters = t .letters; go = targetOf t }
+
+abbrev pub counts : Table → ℕ → ℕ → Bool
+counts t q i = metWithin (systemOf t) (λ p a. requires t p a i) q
+
+abbrev pub rising : Table → ℕ → List ℕ
+rising t q = keep (counts t q) (tabulate (t .pairs) 1 (λ i. i))
+
+abbrev pub marksOf : Table → ℕ → ℕ → Marks
+marksOf t q a = record { prohibited = prohibits t q a; required = requires t q a }
+
+abbrev pub recordKeeper : Table → Keeper (List ℕ)
+recordKeeper t = record { enter = rising t; move = λ q a o. moved asTheyStood (prohibits t q a) o; prio = λ q a o. priority (marksOf t q a) o; same = sameOrder }
+
+abbrev pub tablePlan : Table → Plan (Row (List ℕ))
+tablePlan t = planOf (systemOf t) (t .start) (recordKeeper t)
+
+abbrev pub recordNumbers : List (Row (List ℕ)) → List ℕ
+recordNumbers rs = map (λ r. decimal (r .memory)) rs
