@@ -1,2 +1,6 @@
 -- The laws about the rules, bottom first.
+pub mod Bools
+pub mod Sets
+pub mod Reach
+pub mod Appearance
 pub mod Cards

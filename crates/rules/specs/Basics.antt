@@ -18,8 +18,8 @@
 use mathlib.Core.Path.{_≡_}
 use mathlib.Core.Bool.{Bool, true, false, _||_}
 use mathlib.Core.List.{List, [], _∷_, _++_}
-use Prim.Native.Nat.{ℕ, zero, suc, _/_, _%_, _^_}
-use lib.Dec.{eqb, leb}
+use Prim.Native.Nat.{ℕ, zero, suc, _/_, _%_, _^_, max}
+use lib.Dec.{eqb}
 
 abbrev pub pick : {A : Type 0} → Bool → A → A → A
 pick true x y = x
@@ -71,12 +71,9 @@ abbrev pub repeated : {A : Type 0} → ℕ → List A → List A
 repeated zero xs = []
 repeated (suc n) xs = xs ++ repeated n xs
 
-abbrev pub larger : ℕ → ℕ → ℕ
-larger a b = pick (leb a b) b a
-
 abbrev pub largest : {A : Type 0} → (A → ℕ) → List A → ℕ
 largest g [] = 0
-largest g (x ∷ xs) = larger (g x) (largest g xs)
+largest g (x ∷ xs) = max (g x) (largest g xs)
 
 abbrev pub isEven : ℕ → Bool
 isEven n = eqb (n % 2) 0

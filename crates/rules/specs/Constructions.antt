@@ -6,8 +6,8 @@
 use mathlib.Core.Path.{_≡_}
 use mathlib.Core.Bool.{Bool, true}
 use mathlib.Core.List.{List, [], _∷_}
-use Prim.Native.Nat.{ℕ, _<_}
-use Rattle.rules.specs.Basics.{SameSet, larger, isEven}
+use Prim.Native.Nat.{ℕ, _<_, max}
+use Rattle.rules.specs.Basics.{SameSet, isEven}
 use Rattle.rules.specs.Systems.{System, isInside, Path}
 use Rattle.rules.specs.Runs.{Taken, passFrom}
 use Rattle.rules.specs.Rows.{Keeper}
@@ -18,7 +18,7 @@ memoryAfter s k q m (a ∷ w) = memoryAfter s k (s .go q a) (k .move q a m) w
 
 abbrev pub largestAlong : {M : Type 0} → System → Keeper M → ℕ → M → List ℕ → ℕ
 largestAlong s k q m [] = 0
-largestAlong s k q m (a ∷ w) = larger (k .prio q a m) (largestAlong s k (s .go q a) (k .move q a m) w)
+largestAlong s k q m (a ∷ w) = max (k .prio q a m) (largestAlong s k (s .go q a) (k .move q a m) w)
 
 pub record Lawful {M : Type 0} (s : System) (k : Keeper M) (good : List Taken → Bool) (Fits : ℕ → M → Type 0) : Type 0 where
   -- sameness is equality

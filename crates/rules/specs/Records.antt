@@ -2,15 +2,21 @@
 --     Marks                which pairs a transition prohibits and which it requires
 --     moved arr p o        the pairs of o that p picks move to the front, arranged by arr, and the others follow in their order
 --     asTheyStood          the arrangement that keeps the order that they had among themselves
+--     Rearranges arr       arr keeps every element, as often as it stood
 --     priority m o         from the record before the move: with p the largest position of a pair with either mark, 1 if there is none,
 --                          2p + 1 if that pair is prohibited, else 2p
+--     movedAlong arr ms o          the record o after a walk whose transitions have the marks ms
+--     largestPriority arr ms o     the largest priority on that walk
+--     satisfied ms i               pair i is never prohibited and once required on the walk
 --     decimal o            the pair numbers read as one decimal number, 0 if there is none
 --     sameOrder o o′       the two hold the same pairs in the same order
+use mathlib.Core.Path.{_≡_}
 use mathlib.Core.Bool.{Bool, true, false, not, _&&_}
 use mathlib.Core.List.{List, [], _∷_, _++_}
-use Prim.Native.Nat.{ℕ, suc, _+_, _*_}
+use Prim.Native.Nat.{ℕ, suc, _+_, _*_, max}
 use lib.Dec.{eqb}
-use Rattle.rules.specs.Basics.{pick, keep}
+use lib.ListN.{length}
+use Rattle.rules.specs.Basics.{pick, any, occurs, keep}
 
 pub record Marks : Type 0 where
   pub prohibited : ℕ → Bool
@@ -22,6 +28,10 @@ asTheyStood o = o
 abbrev pub moved : (List ℕ → List ℕ) → (ℕ → Bool) → List ℕ → List ℕ
 moved arr p o = arr (keep p o) ++ keep (λ i. not (p i)) o
 
+pub record Rearranges (arr : List ℕ → List ℕ) : Type 0 where
+  pub same-length : (o : List ℕ) → length (arr o) ≡ length o
+  pub same-occurs : (i : ℕ) (o : List ℕ) → occurs i (arr o) ≡ occurs i o
+
 -- i stands at position p of the whole record, and best is the priority found before it
 abbrev pub priorityFrom : ℕ → Marks → List ℕ → ℕ → ℕ
 priorityFrom p m [] best = best
@@ -29,6 +39,18 @@ priorityFrom p m (i ∷ o) best = priorityFrom (suc p) m o (pick (m .prohibited 
 
 abbrev pub priority : Marks → List ℕ → ℕ
 priority m o = priorityFrom 1 m o 1
+
+-- along a walk
+abbrev pub movedAlong : (List ℕ → List ℕ) → List Marks → List ℕ → List ℕ
+movedAlong arr [] o = o
+movedAlong arr (m ∷ ms) o = movedAlong arr ms (moved arr (m .prohibited) o)
+
+abbrev pub largestPriority : (List ℕ → List ℕ) → List Marks → List ℕ → ℕ
+largestPriority arr [] o = 0
+largestPriority arr (m ∷ ms) o = max (priority m o) (largestPriority arr ms (moved arr (m .prohibited) o))
+
+abbrev pub satisfied : List Marks → ℕ → Bool
+satisfied ms i = not (any (λ m. m .prohibited i) ms) && any (λ m. m .required i) ms
 
 abbrev pub decimalFrom : ℕ → List ℕ → ℕ
 decimalFrom v [] = v

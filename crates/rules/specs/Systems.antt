@@ -20,26 +20,26 @@ pub record System : Type 0 where
   pub letters : ℕ
   pub go : ℕ → ℕ → ℕ
 
-abbrev pub linked : System → ℕ → ℕ → Bool
+unfoldable pub linked : System → ℕ → ℕ → Bool
 linked s p q = ltb q (s .states) && anyBelow (s .letters) (λ a. eqb (s .go p a) q)
 
 abbrev pub via : (ℕ → ℕ → Bool) → ℕ → ℕ → ℕ → Bool
 via e zero p q = e p q
 via e (suc k) p q = via e k p q || (via e k p k && via e k k q)
 
-abbrev pub reaches : System → ℕ → ℕ → Bool
+unfoldable pub reaches : System → ℕ → ℕ → Bool
 reaches s p q = eqb p q || via (linked s) (s .states) p q
 
-abbrev pub together : System → ℕ → ℕ → Bool
+unfoldable pub together : System → ℕ → ℕ → Bool
 together s p q = reaches s p q && reaches s q p
 
-abbrev pub componentOf : System → ℕ → ℕ
+unfoldable pub componentOf : System → ℕ → ℕ
 componentOf s q = least (s .states) 0 (together s q)
 
-abbrev pub isInside : System → ℕ → ℕ → Bool
+unfoldable pub isInside : System → ℕ → ℕ → Bool
 isInside s q a = ltb (s .go q a) (s .states) && together s q (s .go q a)
 
-abbrev pub metWithin : System → (ℕ → ℕ → Bool) → ℕ → Bool
+unfoldable pub metWithin : System → (ℕ → ℕ → Bool) → ℕ → Bool
 metWithin s b q = anyBelow (s .states) (λ p. together s q p && anyBelow (s .letters) (λ a. isInside s p a && b p a))
 
 pub data Path (s : System) : ℕ → List ℕ → ℕ → Type 0 where
