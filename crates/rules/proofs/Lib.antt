@@ -3,4 +3,7 @@ pub mod Bools
 pub mod Sets
 pub mod Reach
 pub mod Appearance
+pub mod Pigeonhole
+pub mod Orbits
+pub mod Runs
 pub mod Cards

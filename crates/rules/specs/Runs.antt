@@ -8,7 +8,8 @@
 --     settled s q lead l         the run from q after the lead-in and as many repetitions of the loop as there are states
 --     recurring s q lead l       the transitions taken in as many repetitions more: of that many repetitions some begins at
 --                                a state for the second time, so these are just the transitions that recur (`recurs-view`)
---     MeetsMissing s q lead l i  in the word's run from q a missing transition is met after i letters
+--     Stop s p w                 reading w from p meets a missing transition: some letters lead on, and for the next there is none
+--     MeetsMissing s q lead l i  the word's run from q meets a missing transition after i letters, in the lead-in or in some repetition
 --     TakenIn s q lead l r x     x is taken in the repetition after the r-th
 --     Recurs s q lead l x        for every r, x is taken in some repetition after the r-th
 --     goesFrom s p xs            xs is a walk from p: transitions that are there, each leaving the state to which the one before leads
@@ -59,16 +60,19 @@ abbrev pub recurring : System → ℕ → List ℕ → List ℕ → List Taken
 recurring s q lead l = passFrom s (settled s q lead l .place) (repeated (s .states) l)
 
 -- what the computed run and the recurring transitions stand for, in document 01's words
-pub record MeetsMissing (s : System) (q : ℕ) (lead l : List ℕ) (i : ℕ) : Type 0 where
+pub record Stop (s : System) (p : ℕ) (w : List ℕ) : Type 0 where
   pub before : List ℕ
   pub next : ℕ
   pub later : List ℕ
-  pub repetitions : ℕ
   pub place : ℕ
-  pub piece : before ++ (next ∷ later) ≡ lead ++ repeated repetitions l
-  pub path : Path s q before place
+  pub piece : before ++ (next ∷ later) ≡ w
+  pub path : Path s p before place
   pub absent : s .states ≤ s .go place next
-  pub count : length before ≡ i
+
+pub record MeetsMissing (s : System) (q : ℕ) (lead l : List ℕ) (i : ℕ) : Type 0 where
+  pub repetitions : ℕ
+  pub stop : Stop s q (lead ++ repeated repetitions l)
+  pub count : length (stop .before) ≡ i
 
 pub record TakenIn (s : System) (q : ℕ) (lead l : List ℕ) (r : ℕ) (x : Taken) : Type 0 where
   pub before : List ℕ
