@@ -6,4 +6,5 @@ pub mod Appearance
 pub mod Pigeonhole
 pub mod Orbits
 pub mod Runs
+pub mod Agreement
 pub mod Cards

@@ -6,7 +6,7 @@
 --     Steady                               a run that never stops: it reads the loop again and again, and some repetition begins
 --                                          where an earlier one began
 --     steady                               not stopped after as many repetitions as there are states: never
---     recurring-window                     from a repetition that begins where one d before it began, d repetitions or more take
+--     endless-window                       from a repetition that begins where it begins again d later, d repetitions or more take
 --                                          exactly the recurring transitions
 --     recurs-view                          a transition is among the recurring ones exactly if for every r it is taken in some
 --                                          repetition after the r-th
@@ -22,8 +22,7 @@ use lib.ListN.{length, length-append}
 use borrow.Author.Tests.{eqb-true, eq-eqb, leb-true, leb-false, le-leb, lt-leb, ltb-true, ltb-false}
 use Rattle.rules.specs.Basics.{any, SameSet, repeated}
 use Rattle.rules.specs.Systems.{System, Path, here, step}
-use Rattle.rules.specs.Runs.{At, standing, reads, goesBy, Taken, taken, isTaken, passFrom, settled, recurring, Stop, MeetsMissing, TakenIn, Recurs}
-use Rattle.rules.specs.Judges.{noLetter}
+use Rattle.rules.specs.Runs.{strayLetter, At, standing, reads, goesBy, Taken, taken, isTaken, passFrom, settled, recurring, Stop, MeetsMissing, TakenIn, Recurs}
 use Rattle.rules.proofs.Bools.{by, clash, or-cases, or-left, or-right, or-none, and-both, and-parts, bool-ext}
 use Rattle.rules.proofs.Sets.{any-append}
 use Rattle.rules.proofs.Reach.{path-append}
@@ -39,7 +38,7 @@ pub repeated-more : {A : Type 0} (n : ℕ) (l : List A) → repeated (suc n) l �
 repeated-more zero l = append-nil l
 repeated-more {A} (suc n) l = ap (λ (z : List A). l ++ z) (repeated-more n l) ∙ sym (append-assoc l (repeated n l) l)
 
-pub repeated-letters : (m n : ℕ) (l : List ℕ) → noLetter m l ≡ false → noLetter m (repeated n l) ≡ false
+pub repeated-letters : (m n : ℕ) (l : List ℕ) → strayLetter m l ≡ false → strayLetter m (repeated n l) ≡ false
 repeated-letters m zero l h = refl
 repeated-letters m (suc n) l h = any-append (λ a. leb m a) l (repeated n l) ∙ rw (h, repeated-letters m n l h)
 
@@ -83,14 +82,15 @@ module _ (s : System) where
       halted : goesBy s (standing false (x .place) (length (x .before) + n)) (x .next ∷ x .later) ≡ standing true (x .place) (length (x .before) + n)
       halted = rw (le-leb (s .states) (s .go (x .place) (x .next)) (x .absent)) (goes-stopped (x .later) (x .place) (length (x .before) + n))
 
-  pub goes-view : (w : List ℕ) (p : ℕ) → noLetter (s .letters) w ≡ false → ((q : ℕ) × Path s p w q) ⊎ Stop s p w
+  pub goes-view : (w : List ℕ) (p : ℕ) → strayLetter (s .letters) w ≡ false → ((q : ℕ) × Path s p w q) ⊎ Stop s p w
   goes-view [] p h = inl (p, here)
   goes-view (a ∷ w) p h =
-      let r = or-none (leb (s .letters) a) (noLetter (s .letters) w) h in
+      let r = or-none (leb (s .letters) a) (strayLetter (s .letters) w) h in
+      let l = leb-false (s .letters) a (r .0) in
       by
         (leb (s .states) (s .go p a))
-        (λ e. inr (record { before = []; next = a; later = w; place = p; piece = refl; path = here; absent = leb-true (s .states) (s .go p a) e }))
-        (λ e. let t = leb-false (s .states) (s .go p a) e in let l = leb-false (s .letters) a (r .0) in ⊎-elim (λ g. inl (g .0, step l t (g .1))) (λ x. inr (record { before = a ∷ x .before; next = x .next; later = x .later; place = x .place; piece = ap (λ (z : List ℕ). a ∷ z) (x .piece); path = step l t (x .path); absent = x .absent })) (goes-view w (s .go p a) (r .1)))
+        (λ e. inr (record { before = []; next = a; later = w; place = p; piece = refl; path = here; letter = l; absent = leb-true (s .states) (s .go p a) e }))
+        (λ e. let t = leb-false (s .states) (s .go p a) e in ⊎-elim (λ g. inl (g .0, step l t (g .1))) (λ x. inr (record { before = a ∷ x .before; next = x .next; later = x .later; place = x .place; piece = ap (λ (z : List ℕ). a ∷ z) (x .piece); path = step l t (x .path); letter = x .letter; absent = x .absent })) (goes-view w (s .go p a) (r .1)))
 
   -- a word that is read to its end meets no missing transition
   pub path-or-stop : {p : ℕ} {w : List ℕ} {q : ℕ} → Path s p w q → Stop s p w → ⊥
@@ -149,6 +149,10 @@ module _ (s : System) where
     steady-path st zero = here
     steady-path st (suc r) = rw (repeated-more r l) (path-append s (steady-path st r) (st .reads-on r))
 
+    pub steady-later : {p : ℕ} → Steady p → (i r : ℕ) → Path s (turn i p) (repeated r l) (turn r (turn i p))
+    steady-later st i zero = here
+    steady-later {p} st i (suc r) = rw (repeated-more r l) (path-append s (steady-later st i r) (rw (iter-add (follow l) r i p) at (st .reads-on (r + i))))
+
     module _ (b : Taken → Bool) where
       -- the repetition that begins at p takes a transition that passes b
       abbrev pub takes : ℕ → Bool
@@ -176,7 +180,7 @@ module _ (s : System) where
       pub takes-recurring : {p : ℕ} (st : Steady p) → Recur (follow l) takes p ↔ (any b (passFrom s (turn (s .states) p) (repeated (s .states) l)) ≡ true)
       takes-recurring {p} st = let e = st .early in turns-window p (s .states) (st .period) (s .states) (st .some) (omega arith) (round-later (follow l) (st .period) (st .begin) (s .states) p (omega arith) (st .round))
 
-    pub recurring-window : {p : ℕ} (st : Steady p) (i d w : ℕ) → 0 < d → d ≤ w → turn d (turn i p) ≡ turn i p → SameSet (passFrom s (turn (s .states) p) (repeated (s .states) l)) (passFrom s (turn i p) (repeated w l))
+    recurring-window : {p : ℕ} (st : Steady p) (i d w : ℕ) → 0 < d → d ≤ w → turn d (turn i p) ≡ turn i p → SameSet (passFrom s (turn (s .states) p) (repeated (s .states) l)) (passFrom s (turn i p) (repeated w l))
     recurring-window {p} st i d w some wide round b =
         let r = takes-recurring b st in
         let v = turns-window b p i d w some wide round in
@@ -208,7 +212,7 @@ module _ (s : System) where
         let r = m .repetitions in
         sym (stop-longer (repeated r l) x) ∙ ap (goesBy s (standing false q 0)) (word-more n r ∙ ap (λ (z : ℕ). lead ++ repeated z l) (add-comm n r) ∙ sym (word-more r n)) ∙ stop-longer (repeated n l) (m .stop) ∙ goes-stop 0 (m .stop)
 
-    module _ (is-state : q < s .states) (lead-ok : noLetter (s .letters) lead ≡ false) (l-ok : noLetter (s .letters) l ≡ false) where
+    module _ (is-state : q < s .states) (lead-ok : strayLetter (s .letters) lead ≡ false) (l-ok : strayLetter (s .letters) l ≡ false) where
       pub run-view : Endless q lead l ⊎ Stop s q (lead ++ repeated (s .states) l)
       run-view = ⊎-elim (λ g. let r = path-split lead (g .1) in inl (record { entry = r .0; path = r .1; on = steady l (path-below is-state (r .1)) (r .2) })) inr (goes-view (lead ++ repeated (s .states) l) q (any-append (λ a. leb (s .letters) a) lead (repeated (s .states) l) ∙ rw (lead-ok, repeated-letters (s .letters) (s .states) l l-ok)))
 
@@ -274,9 +278,8 @@ module _ (s : System) where
         ( λ h r. let k = v .1 (ap (any (isTaken x)) (sym endless-recurring) ∙ h) r in (k .0, k .1, taken-view (k .0) x .1 (k .2)),
           λ h. ap (any (isTaken x)) endless-recurring ∙ v .0 (λ r. let k = h r in (k .0, k .1, taken-view (k .0) x .0 (k .2))) )
 
-    -- the recurring transitions are those of a closed path that the run takes again and again
-    pub endless-period : SameSet (recurring s q lead l) (passFrom s (turn l (e .on .begin) (e .entry)) (repeated (e .on .period) l))
-    endless-period b = ap (any b) endless-recurring ∙ recurring-window l (e .on) (e .on .begin) (e .on .period) (e .on .period) (e .on .some) (omega arith) (e .on .round) b
+    pub endless-window : (i d w : ℕ) → 0 < d → d ≤ w → turn l d (turn l i (e .entry)) ≡ turn l i (e .entry) → SameSet (recurring s q lead l) (passFrom s (turn l i (e .entry)) (repeated w l))
+    endless-window i d w some wide round b = ap (any b) endless-recurring ∙ recurring-window l (e .on) i d w some wide round b
 
-  pub recurs-view : (q : ℕ) (lead l : List ℕ) → q < s .states → noLetter (s .letters) lead ≡ false → noLetter (s .letters) l ≡ false → settled s q lead l .stopped ≡ false → (x : Taken) → (any (isTaken x) (recurring s q lead l) ≡ true) ↔ Recurs s q lead l x
+  pub recurs-view : (q : ℕ) (lead l : List ℕ) → q < s .states → strayLetter (s .letters) lead ≡ false → strayLetter (s .letters) l ≡ false → settled s q lead l .stopped ≡ false → (x : Taken) → (any (isTaken x) (recurring s q lead l) ≡ true) ↔ Recurs s q lead l x
   recurs-view q lead l b lead-ok l-ok going x = ⊎-elim (λ e. endless-recurs q lead l e x) (λ y. clash (ap (λ (z : At). z .stopped) (goes-stop 0 y)) going) (run-view q lead l b lead-ok l-ok)

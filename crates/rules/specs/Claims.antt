@@ -13,10 +13,10 @@ use Prim.Native.Nat.{ℕ}
 use lib.Dec.{eqb, leb}
 use lib.ListN.{length, getD}
 use Rattle.rules.specs.Limits.{maxRows, noRow}
-use Rattle.rules.specs.Runs.{Taken, taken, isClosedWalk}
+use Rattle.rules.specs.Runs.{Taken, taken, strayLetter, isClosedWalk}
 use Rattle.rules.specs.Rows.{Row, rowsOf, isFull, allTargets, allPriorities, sources}
 use Rattle.rules.specs.Tables.{tableOf, tableFault, tablePlan}
-use Rattle.rules.specs.Judges.{satisfies, paritySystem, parityGood, rabinRun, parityRun, rabinJudge, parityJudge, noLetter}
+use Rattle.rules.specs.Judges.{satisfies, paritySystem, parityGood, rabinRun, parityRun, rabinJudge, parityJudge}
 
 abbrev pub translated : List ℕ → ℕ → Bool
 translated bs c = eqb (tableFault bs) 0 && (leb 1 c && (leb c maxRows && not (isFull (tablePlan (tableOf bs)) c)))
@@ -34,7 +34,7 @@ abbrev pub projected : List ℕ → List Taken → List Taken
 projected ss xs = map (λ x. taken (getD ss (x .from) 0) (x .by)) xs
 
 pub record Agrees (bs : List ℕ) (n : ℕ) (ts ps ss : List ℕ) : Type 0 where
-  pub words : (lead l : List ℕ) → eqb (length l) 0 ≡ false → noLetter (tableOf bs .letters) lead ≡ false → noLetter (tableOf bs .letters) l ≡ false → parityRun n (tableOf bs .letters) ts ps lead l ≡ rabinRun (tableOf bs) lead l
+  pub words : (lead l : List ℕ) → eqb (length l) 0 ≡ false → strayLetter (tableOf bs .letters) lead ≡ false → strayLetter (tableOf bs .letters) l ≡ false → parityRun n (tableOf bs .letters) ts ps lead l ≡ rabinRun (tableOf bs) lead l
   pub judges : (lead l : List ℕ) → parityJudge n (tableOf bs .letters) ts ps lead l ≡ rabinJudge bs lead l
   pub walks : (xs : List Taken) → isClosedWalk (paritySystem n (tableOf bs .letters) ts) xs ≡ true → (parityGood (tableOf bs .letters) ps xs ≡ true) ↔ (satisfies (tableOf bs) (projected ss xs) ≡ true)
 

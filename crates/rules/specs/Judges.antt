@@ -18,7 +18,7 @@ use Rattle.rules.specs.Basics.{pick, any, anyBelow, firstOf, when, large
 use Rattle.rules.specs.Limits.{maxLetters, maxRows, maxPiece, noRow}
 use Rattle.rules.specs.Refusals as Refusal
 use Rattle.rules.specs.Systems.{System}
-use Rattle.rules.specs.Runs.{Taken, settled, recurring}
+use Rattle.rules.specs.Runs.{Taken, strayLetter, settled, recurring}
 use Rattle.rules.specs.Tables.{Table, cell, tableOf, tableFault, targetFault, systemOf, prohibits, requires}
 
 pub record Answer : Type 0 where
@@ -64,11 +64,8 @@ abbrev pub parityRun : ℕ → ℕ → List ℕ → List ℕ → List ℕ → Li
 parityRun n m ts ps lead l = judgedBy (paritySystem n m ts) 0 lead l (parityGood m ps)
 
 -- refusals
-abbrev pub noLetter : ℕ → List ℕ → Bool
-noLetter m w = any (λ a. leb m a) w
-
 abbrev pub wordFault : ℕ → List ℕ → List ℕ → ℕ
-wordFault m lead l = firstOf (when (eqb (length l) 0 || (ltb maxPiece (length lead) || ltb maxPiece (length l))) Refusal.loop) (when (noLetter m lead || noLetter m l) Refusal.letter)
+wordFault m lead l = firstOf (when (eqb (length l) 0 || (ltb maxPiece (length lead) || ltb maxPiece (length l))) Refusal.loop) (when (strayLetter m lead || strayLetter m l) Refusal.letter)
 
 abbrev pub parityFault : ℕ → ℕ → List ℕ → List ℕ → ℕ
 parityFault n m ts ps = when (eqb n 0 || (ltb maxRows n || (eqb m 0 || (ltb maxLetters m || (ltb (length ts) (n * m) || (ltb (length ps) (n * m) || targetFault n noRow (take (n * m) ts))))))) Refusal.parity

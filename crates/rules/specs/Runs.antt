@@ -1,5 +1,6 @@
 -- Looped words and runs, recurring transitions, walks; over any transition system.
 -- A looped word (an ultimately periodic word) is a lead-in and a loop that is repeated for ever.
+--     strayLetter m w            some byte of w is no letter
 --     At                         where a run stands: stopped or not, the state, the letters read
 --     reads s x a                one letter more: a run that meets no transition stops where it stands, and that letter is not counted
 --     goesBy s x w               the letters of w, one after the other
@@ -21,8 +22,11 @@ use mathlib.Core.List.{List, [], _∷_, _++_}
 use Prim.Native.Nat.{ℕ, suc, _≤_, _<_}
 use lib.Dec.{eqb, ltb, leb}
 use lib.ListN.{length}
-use Rattle.rules.specs.Basics.{pick, repeated}
+use Rattle.rules.specs.Basics.{pick, any, repeated}
 use Rattle.rules.specs.Systems.{System, Path}
+
+abbrev pub strayLetter : ℕ → List ℕ → Bool
+strayLetter m w = any (λ a. leb m a) w
 
 pub record At : Type 0 where
   pub stopped : Bool
@@ -67,6 +71,7 @@ pub record Stop (s : System) (p : ℕ) (w : List ℕ) : Type 0 where
   pub place : ℕ
   pub piece : before ++ (next ∷ later) ≡ w
   pub path : Path s p before place
+  pub letter : next < s .letters
   pub absent : s .states ≤ s .go place next
 
 pub record MeetsMissing (s : System) (q : ℕ) (lead l : List ℕ) (i : ℕ) : Type 0 where
