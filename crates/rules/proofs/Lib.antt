@@ -7,4 +7,5 @@ pub mod Pigeonhole
 pub mod Orbits
 pub mod Runs
 pub mod Agreement
+pub mod Exploration
 pub mod Cards

@@ -8,14 +8,20 @@
 --     rowsOf g c               the reachable rows in order of discovery, rows taken by number and letters rising within each; no
 --                              further row is read once there are more than c
 --     isFull g c               more than c rows were found
+--     Reached g r              some letters lead from the first row to r
+--     Distinct g rs            no row stands twice in rs
+--     Discovered g rs k        row k is what a transition of an earlier row leads to, and every transition that is read earlier, rows
+--                              by number and letters rising within each, leads to a row numbered below k
 --     allTargets, allPriorities     one list for each row, joined; a missing transition has the target `none`
 --     Row                      a source state with a memory
 --     Keeper                   a kind of memory: what it is where a component is entered, how it moves along an inside transition, the
 --                              priority of that transition, and when two memories are the same
 --     stepOf, planOf           the rows of a transition system with a keeper: missing, inside and crossing transitions, said once
+use mathlib.Core.Path.{_≡_}
+use mathlib.Core.Logic.{_⊎_}
 use mathlib.Core.Bool.{Bool, true, false, _&&_}
 use mathlib.Core.List.{List, [], _∷_, _++_, map}
-use Prim.Native.Nat.{ℕ, zero, suc}
+use Prim.Native.Nat.{ℕ, zero, suc, _<_}
 use lib.Dec.{eqb, ltb, leb}
 use lib.ListN.{length, getD}
 use Rattle.rules.specs.Basics.{pick, tabulate, joined}
@@ -50,11 +56,34 @@ abbrev pub foundFrom : {A : Type 0} → ℕ → ℕ → Plan A → ℕ → List 
 foundFrom zero i g c rs = rs
 foundFrom (suc f) i g c rs = elim (ltb i (length rs) && leb (length rs) c) [ true ↦ foundFrom f (suc i) g c (foundBy (g .letters) 0 g (getD rs i (g .first)) rs) | false ↦ rs ]
 
-abbrev pub rowsOf : {A : Type 0} → Plan A → ℕ → List A
+unfoldable pub rowsOf : {A : Type 0} → Plan A → ℕ → List A
 rowsOf g c = foundFrom (suc c) 0 g c (g .first ∷ [])
 
 abbrev pub isFull : {A : Type 0} → Plan A → ℕ → Bool
 isFull g c = ltb c (length (rowsOf g c))
+
+-- what the rows found stand for, in document 01's words
+abbrev pub rowAt : {A : Type 0} → Plan A → List A → ℕ → A
+rowAt g rs i = getD rs i (g .first)
+
+pub data Reached {A : Type 0} (g : Plan A) : A → Type 0 where
+  first-row : Reached g (g .first)
+  next-row : {r : A} {a : ℕ} → Reached g r → a < g .letters → g .step r a .there ≡ true → Reached g (g .step r a .to)
+
+abbrev pub Distinct : {A : Type 0} → Plan A → List A → Type 0
+Distinct g rs = (i j : ℕ) → i < j → j < length rs → rowAt g rs i ≡ rowAt g rs j → ⊥
+
+abbrev pub Earlier : ℕ → ℕ → ℕ → ℕ → Type 0
+Earlier j b i a = (j < i) ⊎ ((j ≡ i) × (b < a))
+
+pub record Discovered {A : Type 0} (g : Plan A) (rs : List A) (k : ℕ) : Type 0 where
+  pub by-row : ℕ
+  pub by-letter : ℕ
+  pub from-before : by-row < k
+  pub is-letter : by-letter < g .letters
+  pub there : g .step (rowAt g rs by-row) by-letter .there ≡ true
+  pub found : g .step (rowAt g rs by-row) by-letter .to ≡ rowAt g rs k
+  pub nothing-new : (j b : ℕ) → Earlier j b by-row by-letter → b < g .letters → g .step (rowAt g rs j) b .there ≡ true → numberOf g (g .step (rowAt g rs j) b .to) rs < k
 
 -- the arrays
 abbrev pub targetNumber : {A : Type 0} → Plan A → ℕ → List A → A → ℕ → ℕ

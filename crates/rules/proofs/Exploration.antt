@@ -1,0 +1,260 @@
+-- What the exploration finds, over any plan whose sameness of rows is equality.
+--     rows-first           the first row is number 0
+--     rows-once            each row stands once: it has its own number
+--     rows-discovered      rows are numbered in order of discovery
+--     rows-all, rows-reached     every row found is reachable, and has whatever the first row has and steps keep
+--     rows-closed          in a table that is not full every transition leads to a row of the table
+--     reached-row          in a table that is not full every reachable row has its number
+--     full-view            full exactly if more than c rows are reachable
+use mathlib.Core.Path.{_≡_, refl, sym, ap, _∙_, subst}
+use mathlib.Core.Logic.{_↔_, _⊎_, inl, inr, ⊎-elim}
+use mathlib.Core.Bool.{Bool, true, false, _&&_, not}
+use mathlib.Core.List.{List, [], _∷_, _++_}
+use Prim.Native.Nat.{ℕ, zero, suc, _+_, _≤_, _<_}
+use native.Mathlib.Nat.{le-antisymm}
+use native.Mathlib.Omega.{arith}
+use lib.Dec.{ltb, leb}
+use lib.ListN.{length, getD, length-append, List·getD-append}
+use lib.Seq.{getD-append-seam}
+use borrow.Author.Tests.{ltb-true, ltb-false, leb-true, leb-false, le-leb, lt-leb, lt-ltb, le-ltb}
+use Rattle.rules.specs.Basics.{pick}
+use Rattle.rules.specs.Rows.{Plan, placeOf, numberOf, met, foundBy, foundFrom, rowsOf, isFull, rowAt, Reached, first-row, next-row, Distinct, Earlier, Discovered}
+use Rattle.rules.proofs.Bools.{by, clash, and-both, and-parts}
+use Rattle.rules.proofs.Pigeonhole.{pigeonhole}
+
+-- ---- the place of the first element that passes a test
+module _ {A : Type 0} (b : A → Bool) where
+  place-hit : (x : A) (xs : List A) → b x ≡ true → placeOf b (x ∷ xs) ≡ 0
+  place-hit x xs e = rw (e, placeOf)
+
+  place-miss : (x : A) (xs : List A) → b x ≡ false → placeOf b (x ∷ xs) ≡ suc (placeOf b xs)
+  place-miss x xs e = rw (e, placeOf)
+
+  pub place-found : (d : A) (xs : List A) → placeOf b xs < length xs → b (getD xs (placeOf b xs) d) ≡ true
+  place-found d [] h = absurd (omega arith)
+  place-found d (x ∷ xs) h = by (b x) (λ e. rw (place-hit x xs e) e) (λ e. rw (place-miss x xs e) (place-found d xs (omega (arith, rw (place-miss x xs e) at h))))
+
+  pub place-least : (d : A) (xs : List A) (k : ℕ) → k < length xs → b (getD xs k d) ≡ true → placeOf b xs ≤ k
+  place-least d [] k l h = absurd (omega arith)
+  place-least d (x ∷ xs) zero l h = rw (place-hit x xs h) (omega arith)
+  place-least d (x ∷ xs) (suc k) l h = by (b x) (λ e. rw (place-hit x xs e) (omega arith)) (λ e. rw (place-miss x xs e) (omega (arith, place-least d xs k (omega arith) h)))
+
+  pub place-append : (xs ys : List A) → placeOf b xs < length xs → placeOf b (xs ++ ys) ≡ placeOf b xs
+  place-append [] ys h = absurd (omega arith)
+  place-append (x ∷ xs) ys h = by (b x) (λ e. place-hit x (xs ++ ys) e ∙ sym (place-hit x xs e)) (λ e. place-miss x (xs ++ ys) e ∙ ap suc (place-append xs ys (omega (arith, rw (place-miss x xs e) at h))) ∙ sym (place-miss x xs e))
+
+  pub place-added : (xs : List A) (y : A) → length xs ≤ placeOf b xs → b y ≡ true → placeOf b (xs ++ (y ∷ [])) ≡ length xs
+  place-added [] y h e = place-hit y [] e
+  place-added (x ∷ xs) y h e = by (b x) (λ f. absurd (omega (arith, rw (place-hit x xs f) at h))) (λ f. place-miss x (xs ++ (y ∷ [])) f ∙ ap suc (place-added xs y (omega (arith, rw (place-miss x xs f) at h)) e))
+
+-- ---- moments of the exploration, ordered by row and letter
+earlier-row : {j b i a : ℕ} → Earlier j b i a → j ≤ i
+earlier-row e = ⊎-elim (λ l. omega arith) (λ p. omega arith) e
+
+earlier-next : {C : Type 0} {j b i a : ℕ} → Earlier j b i (suc a) → (Earlier j b i a → C) → (j ≡ i → b ≡ a → C) → C
+earlier-next {b = b} {a = a} e f g = ⊎-elim (λ l. f (inl l)) (λ p. by (ltb b a) (λ h. f (inr (p .0, ltb-true b a h))) (λ h. g (p .0) (omega (arith, ltb-false b a h, p .1)))) e
+
+module _ {A : Type 0} (g : Plan A) (same-equal : (x y : A) → g .same x y ≡ true → x ≡ y) (same-refl : (x : A) → g .same x x ≡ true) where
+  -- the rows found when the rows below i have been read, and row i by the letters below a
+  record Found (i a : ℕ) (rs : List A) : Type 0 where
+    some : 0 < length rs
+    front : rowAt g rs 0 ≡ g .first
+    once : (k : ℕ) → k < length rs → numberOf g (rowAt g rs k) rs ≡ k
+    closed : (j b : ℕ) → Earlier j b i a → b < g .letters → j < length rs → g .step (rowAt g rs j) b .there ≡ true → numberOf g (g .step (rowAt g rs j) b .to) rs < length rs
+    ordered : (k : ℕ) → 0 < k → k < length rs → Discovered g rs k
+
+  -- a row that is absent is added
+  module _ (rs : List A) (x : A) (absent : length rs ≤ numberOf g x rs) where
+    abbrev more : List A
+    more = rs ++ (x ∷ [])
+
+    more-length : length more ≡ suc (length rs)
+    more-length = simp length-append (omega arith)
+
+    same-row : (j : ℕ) → j < length rs → rowAt g more j ≡ rowAt g rs j
+    same-row j l = List·getD-append rs (x ∷ []) (g .first) j l
+
+    last-row : rowAt g more (length rs) ≡ x
+    last-row = getD-append-seam rs x [] (g .first)
+
+    same-number : (r : A) → numberOf g r rs < length rs → numberOf g r more ≡ numberOf g r rs
+    same-number r l = place-append (g .same r) rs (x ∷ []) l
+
+    last-number : numberOf g x more ≡ length rs
+    last-number = place-added (g .same x) rs x absent (same-refl x)
+
+    once-more : ((k : ℕ) → k < length rs → numberOf g (rowAt g rs k) rs ≡ k) → (k : ℕ) → k < length more → numberOf g (rowAt g more k) more ≡ k
+    once-more h k l =
+        by
+          (ltb k (length rs))
+          (λ e. let b = ltb-true k (length rs) e in rw (same-row k b) (same-number (rowAt g rs k) (omega (arith, h k b)) ∙ h k b))
+          (λ e. let z : k ≡ length rs = omega (arith, ltb-false k (length rs) e, more-length) in rw z (rw last-row last-number))
+
+    -- a transition of an old row to an old row
+    old-step : (j b n : ℕ) → j < length rs → n ≤ length rs → (g .step (rowAt g rs j) b .there ≡ true → numberOf g (g .step (rowAt g rs j) b .to) rs < n) → g .step (rowAt g more j) b .there ≡ true → numberOf g (g .step (rowAt g more j) b .to) more < n
+    old-step j b n l le h t =
+        let lt = h (rw (same-row j l) at t) in
+        rw (same-row j l) (rw (same-number (g .step (rowAt g rs j) b .to) (omega arith)) lt)
+
+    discovered-more : (k : ℕ) → k < length rs → Discovered g rs k → Discovered g more k
+    discovered-more k l d =
+        let o = same-row (d .by-row) (omega (arith, d .from-before)) in
+        record
+          { by-row = d .by-row
+          ; by-letter = d .by-letter
+          ; from-before = d .from-before
+          ; is-letter = d .is-letter
+          ; there = rw o (d .there)
+          ; found = rw (o, same-row k l) (d .found)
+          ; nothing-new = λ j b e lb t. old-step j b k (omega (arith, earlier-row e, d .from-before)) (omega arith) (d .nothing-new j b e lb) t
+          }
+
+    discovered-last : {i a : ℕ} → Found i a rs → i < length rs → a < g .letters → g .step (rowAt g rs i) a .there ≡ true → g .step (rowAt g rs i) a .to ≡ x → Discovered g more (length rs)
+    discovered-last {i} {a} f l la t to =
+        let o = same-row i l in
+        record
+          { by-row = i
+          ; by-letter = a
+          ; from-before = l
+          ; is-letter = la
+          ; there = rw o t
+          ; found = rw (o, last-row) to
+          ; nothing-new = λ j b e lb t′. let lj : j < length rs = omega (arith, earlier-row e) in old-step j b (length rs) lj (omega arith) (f .closed j b e lb lj) t′
+          }
+
+    found-more : {i a : ℕ} → Found i a rs → i < length rs → a < g .letters → g .step (rowAt g rs i) a .there ≡ true → g .step (rowAt g rs i) a .to ≡ x → Found i (suc a) more
+    found-more {i} {a} f l la t to =
+        record
+          { some = omega (arith, more-length)
+          ; front = same-row 0 (f .some) ∙ f .front
+          ; once = once-more (f .once)
+          ; closed = λ j b h lb lj t′. earlier-next h (λ h′. let lj′ : j < length rs = omega (arith, earlier-row h′) in omega (arith, more-length, old-step j b (length rs) lj′ (omega arith) (f .closed j b h′ lb lj′) t′)) (λ p q. rw (p, q, same-row i l, to) (omega (arith, last-number, more-length)))
+          ; ordered = λ k pos lk. by (ltb k (length rs)) (λ e. let b = ltb-true k (length rs) e in discovered-more k b (f .ordered k pos b)) (λ e. let z : k ≡ length rs = omega (arith, ltb-false k (length rs) e, more-length) in rw z (discovered-last f l la t to))
+          }
+
+  found-met : {i a : ℕ} {rs : List A} → Found i a rs → i < length rs → a < g .letters → Found i (suc a) (met g rs (rowAt g rs i) a)
+  found-met {i} {a} {rs} f l la = by (g .step (rowAt g rs i) a .there && leb (length rs) (numberOf g (g .step (rowAt g rs i) a .to) rs)) added known
+    where
+      x : A
+      x = g .step (rowAt g rs i) a .to
+      added : g .step (rowAt g rs i) a .there && leb (length rs) (numberOf g x rs) ≡ true → Found i (suc a) (met g rs (rowAt g rs i) a)
+      added e = let r = and-parts (g .step (rowAt g rs i) a .there) (leb (length rs) (numberOf g x rs)) e in rw e (found-more rs x (leb-true (length rs) (numberOf g x rs) (r .1)) f l la (r .0) refl)
+      known : g .step (rowAt g rs i) a .there && leb (length rs) (numberOf g x rs) ≡ false → Found i (suc a) (met g rs (rowAt g rs i) a)
+      known e = rw e (record { some = f .some; front = f .front; once = f .once; closed = λ j b h lb lj t. earlier-next h (λ h′. f .closed j b h′ lb lj t) (λ p q. rw (p, q) (now (rw (p, q) at t))); ordered = f .ordered })
+        where
+          now : g .step (rowAt g rs i) a .there ≡ true → numberOf g x rs < length rs
+          now t = by (leb (length rs) (numberOf g x rs)) (λ h. clash (and-both (g .step (rowAt g rs i) a .there) (leb (length rs) (numberOf g x rs)) t h) e) (λ h. leb-false (length rs) (numberOf g x rs) h)
+
+  -- ---- the whole exploration
+  met-longer : (rs : List A) (r : A) (a : ℕ) → length rs ≤ length (met g rs r a)
+  met-longer rs r a = by (g .step r a .there && leb (length rs) (numberOf g (g .step r a .to) rs)) (λ e. rw e (simp length-append (omega arith))) (λ e. rw e (omega arith))
+
+  met-row : (rs : List A) (r : A) (a i : ℕ) → i < length rs → rowAt g (met g rs r a) i ≡ rowAt g rs i
+  met-row rs r a i l = by (g .step r a .there && leb (length rs) (numberOf g (g .step r a .to) rs)) (λ e. rw e (List·getD-append rs (g .step r a .to ∷ []) (g .first) i l)) (λ e. rw e)
+
+  found-by : (n : ℕ) {i a : ℕ} {rs : List A} (r : A) → Found i a rs → rowAt g rs i ≡ r → i < length rs → a + n ≡ g .letters → Found i (g .letters) (foundBy n a g r rs) × (i < length (foundBy n a g r rs))
+  found-by zero {i} {a} {rs} r f e l h = let z : a ≡ g .letters = omega arith in (rw z at f, l)
+  found-by (suc n) {i} {a} {rs} r f e l h = found-by n r (rw e at (found-met f l (omega arith))) (met-row rs r a i l ∙ e) (omega (arith, met-longer rs r a)) (omega arith)
+
+  found-next : {i : ℕ} {rs : List A} → Found i (g .letters) rs → Found (suc i) 0 rs
+  found-next {i} f = record { some = f .some; front = f .front; once = f .once; ordered = f .ordered; closed = λ j b h lb lj t. f .closed j b (earlier h lb) lb lj t }
+    where
+      earlier : {j b : ℕ} → Earlier j b (suc i) 0 → b < g .letters → Earlier j b i (g .letters)
+      earlier {j} h lb = ⊎-elim (λ l. by (ltb j i) (λ e. inl (ltb-true j i e)) (λ e. inr (omega (arith, ltb-false j i e), lb))) (λ p. absurd (omega arith)) h
+
+  from-on : (n i c : ℕ) (rs : List A) → ltb i (length rs) && leb (length rs) c ≡ true → foundFrom (suc n) i g c rs ≡ foundFrom n (suc i) g c (foundBy (g .letters) 0 g (rowAt g rs i) rs)
+  from-on n i c rs e = rw (e, foundFrom)
+
+  from-end : (n i c : ℕ) (rs : List A) → ltb i (length rs) && leb (length rs) c ≡ false → foundFrom (suc n) i g c rs ≡ rs
+  from-end n i c rs e = rw (e, foundFrom)
+
+  -- the rows found, all of them read unless there are too many
+  record Explored (c : ℕ) (rs : List A) : Type 0 where
+    read : ℕ
+    rows : Found read 0 rs
+    ended : (c < length rs) ⊎ (length rs ≤ read)
+
+  found-from : (n c : ℕ) {i : ℕ} {rs : List A} → Found i 0 rs → n + i ≡ suc c → Explored c (foundFrom n i g c rs)
+  found-from zero c {i} {rs} f h = record { read = i; rows = f; ended = by (ltb c (length rs)) (λ e. inl (ltb-true c (length rs) e)) (λ e. inr (omega (arith, ltb-false c (length rs) e))) }
+  found-from (suc n) c {i} {rs} f h =
+      by
+        (ltb i (length rs) && leb (length rs) c)
+        (λ e. rw (from-on n i c rs e) (found-from n c (found-next (found-by (g .letters) (rowAt g rs i) f refl (ltb-true i (length rs) (and-parts (ltb i (length rs)) (leb (length rs) c) e .0)) (omega arith) .0)) (omega arith)))
+        (λ e. rw (from-end n i c rs e) (record { read = i; rows = f; ended = by (ltb i (length rs)) (λ p. inl (leb-false (length rs) c (rw p at e))) (λ p. inr (ltb-false i (length rs) p)) }))
+
+  first-found : Found 0 0 (g .first ∷ [])
+  first-found = record { some = omega arith; front = refl; once = alone; closed = λ j b h lb lj t. absurd (⊎-elim (λ (l : j < 0). omega arith) (λ (p : (j ≡ 0) × (b < 0)). omega arith) h); ordered = λ k pos l. absurd (omega arith) }
+    where
+      alone : (k : ℕ) → k < length (g .first ∷ []) → numberOf g (rowAt g (g .first ∷ []) k) (g .first ∷ []) ≡ k
+      alone zero l = place-hit (g .same (g .first)) (g .first) [] (same-refl (g .first))
+      alone (suc k) l = absurd (omega arith)
+
+  explored : (c : ℕ) → Explored c (rowsOf g c)
+  unfolding rowsOf
+  explored c = found-from (suc c) c first-found (omega arith)
+
+  -- ---- what holds of the rows found
+  module _ (c : ℕ) where
+    abbrev rs : List A
+    rs = rowsOf g c
+
+    pub rows-some : 0 < length rs
+    rows-some = explored c .rows .some
+
+    pub rows-first : rowAt g rs 0 ≡ g .first
+    rows-first = explored c .rows .front
+
+    pub rows-once : (k : ℕ) → k < length rs → numberOf g (rowAt g rs k) rs ≡ k
+    rows-once = explored c .rows .once
+
+    pub rows-discovered : (k : ℕ) → 0 < k → k < length rs → Discovered g rs k
+    rows-discovered = explored c .rows .ordered
+
+    pub rows-distinct : Distinct g rs
+    rows-distinct i j l lj e = let p = rows-once i (omega arith) in let q = rows-once j lj in let z : i ≡ j = sym p ∙ ap (λ (r : A). numberOf g r rs) e ∙ q in omega arith
+
+    -- whatever the first row has and steps keep
+    module _ (P : A → Type 0) (first : P (g .first)) (step : (r : A) (a : ℕ) → a < g .letters → P r → g .step r a .there ≡ true → P (g .step r a .to)) where
+      all-below : (n k : ℕ) → k < n → k < length rs → P (rowAt g rs k)
+      all-below zero k h l = absurd (omega arith)
+      all-below (suc n) zero h l = rw rows-first first
+      all-below (suc n) (suc k) h l = let d = rows-discovered (suc k) (omega arith) l in subst P (d .found) (step (rowAt g rs (d .by-row)) (d .by-letter) (d .is-letter) (all-below n (d .by-row) (omega (arith, d .from-before)) (omega (arith, d .from-before))) (d .there))
+
+      pub rows-all : (k : ℕ) → k < length rs → P (rowAt g rs k)
+      rows-all k l = all-below (suc k) k (omega arith) l
+
+    pub rows-reached : (k : ℕ) → k < length rs → Reached g (rowAt g rs k)
+    rows-reached = rows-all (Reached g) first-row (λ r a l h t. next-row h l t)
+
+    -- a row is the one of its number
+    pub row-numbered : (r : A) → numberOf g r rs < length rs → rowAt g rs (numberOf g r rs) ≡ r
+    row-numbered r l = sym (same-equal r (rowAt g rs (numberOf g r rs)) (place-found (g .same r) (g .first) rs l))
+
+    module _ (fits : isFull g c ≡ false) where
+      pub rows-within : length rs ≤ c
+      rows-within = ltb-false c (length rs) fits
+
+      pub rows-closed : (j b : ℕ) → j < length rs → b < g .letters → g .step (rowAt g rs j) b .there ≡ true → numberOf g (g .step (rowAt g rs j) b .to) rs < length rs
+      rows-closed j b lj lb t = explored c .rows .closed j b (inl (⊎-elim (λ h. omega (arith, rows-within)) (λ h. omega arith) (explored c .ended))) lb lj t
+
+      pub reached-row : {r : A} → Reached g r → numberOf g r rs < length rs
+      reached-row first-row = let h = place-least (g .same (g .first)) (g .first) rs 0 rows-some (rw rows-first (same-refl (g .first))) in omega (arith, rows-some)
+      reached-row (next-row {r = x} {a = a} h l t) =
+          let n = reached-row h in
+          let e = row-numbered x n in
+          subst (λ (z : A). numberOf g (g .step z a .to) rs < length rs) e (rows-closed (numberOf g x rs) a n l (rw e t))
+
+    pub full-view : (isFull g c ≡ true) ↔ ((xs : List A) × (c < length xs) × Distinct g xs × ((k : ℕ) → k < length xs → Reached g (rowAt g xs k)))
+    full-view = (λ h. (rs, ltb-true c (length rs) h, rows-distinct, rows-reached), λ f. by (isFull g c) (λ e. e) (λ e. absurd (crowded e f)))
+      where
+        crowded : isFull g c ≡ false → (xs : List A) × (c < length xs) × Distinct g xs × ((k : ℕ) → k < length xs → Reached g (rowAt g xs k)) → ⊥
+        crowded e f =
+            let xs = f .0 in
+            let few = rows-within e in
+            let n : ℕ → ℕ = λ k. numberOf g (rowAt g xs k) rs in
+            let p = pigeonhole (length rs) n (λ k l. reached-row e (f .3 k (omega (arith, f .1)))) in
+            let i = p .0 in
+            let j = p .1 in
+            let at-i = row-numbered (rowAt g xs i) (reached-row e (f .3 i (omega (arith, f .1, p .2, p .3)))) in
+            let at-j = row-numbered (rowAt g xs j) (reached-row e (f .3 j (omega (arith, f .1, p .3)))) in
+            f .2 i j (p .2) (omega (arith, f .1, p .3)) (sym at-i ∙ ap (rowAt g rs) (p .4) ∙ at-j)
