@@ -8,4 +8,7 @@ pub mod Orbits
 pub mod Runs
 pub mod Agreement
 pub mod Exploration
+pub mod Arrays
+pub mod Steps
+pub mod Demand3
 pub mod Cards

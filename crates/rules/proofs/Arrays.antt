@@ -1,0 +1,40 @@
+-- What stands where in an array that joins one list for each row, with whatever stands behind it.
+--     tabulate-length, tabulate-at     a tabulated list
+--     joined-length, joined-at         lists of one length, joined: the cell of row i and letter a is number i · m + a
+--     mapped-at                        one number for each row
+use mathlib.Core.Path.{_≡_, refl, sym, ap, _∙_}
+use mathlib.Core.List.{List, [], _∷_, _++_, append-assoc, map}
+use Prim.Native.Nat.{ℕ, zero, suc, _+_, _*_, _≤_, _<_}
+use native.Mathlib.Nat.{suc-mul, zero-mul}
+use native.Mathlib.Omega.{arith}
+use lib.ListN.{length, getD, length-append, List·getD-append}
+use lib.Seq.{getD-append-add}
+use Rattle.rules.specs.Basics.{tabulate, joined}
+use Rattle.rules.specs.Tables.{cell}
+
+module _ {B : Type 0} (h : ℕ → B) where
+  pub tabulate-length : (n i : ℕ) → length (tabulate n i h) ≡ n
+  tabulate-length zero i = refl
+  tabulate-length (suc n) i = ap suc (tabulate-length n (suc i))
+
+  pub tabulate-at : (n i a : ℕ) (d : B) → a < n → getD (tabulate n i h) a d ≡ h (i + a)
+  tabulate-at zero i a d l = absurd (omega arith)
+  tabulate-at (suc n) i zero d l = ap h (omega arith)
+  tabulate-at (suc n) i (suc a) d l = tabulate-at n (suc i) a d (omega arith) ∙ ap h (omega arith)
+
+module _ {A B : Type 0} (h : A → List B) (m : ℕ) (even : (x : A) → length (h x) ≡ m) where
+  pub joined-length : (xs : List A) → length (joined h xs) ≡ length xs * m
+  joined-length [] = sym (zero-mul m)
+  joined-length (x ∷ xs) = simp length-append (rw suc-mul (omega (arith, even x, joined-length xs)))
+
+  pub joined-at : (xs : List A) (z : List B) (i a : ℕ) (d : B) (d′ : A) → i < length xs → a < m → getD (joined h xs ++ z) (cell m i a) d ≡ getD (h (getD xs i d′)) a d
+  joined-at [] z i a d d′ l la = absurd (omega arith)
+  joined-at (x ∷ xs) z zero a d d′ l la = rw (append-assoc (h x) (joined h xs) z, zero-mul m) (ap (λ (n : ℕ). getD (h x ++ (joined h xs ++ z)) n d) (omega arith) ∙ List·getD-append (h x) (joined h xs ++ z) d a (omega (arith, even x)))
+  joined-at (x ∷ xs) z (suc i) a d d′ l la =
+      let e : cell m (suc i) a ≡ length (h x) + cell m i a = rw suc-mul (omega (arith, even x)) in
+      rw (append-assoc (h x) (joined h xs) z, e) (getD-append-add (h x) (joined h xs ++ z) (cell m i a) d ∙ joined-at xs z i a d d′ (omega arith) la)
+
+pub mapped-at : {A B : Type 0} (h : A → B) (xs : List A) (z : List B) (i : ℕ) (d : B) (d′ : A) → i < length xs → getD (map h xs ++ z) i d ≡ h (getD xs i d′)
+mapped-at h [] z i d d′ l = absurd (omega arith)
+mapped-at h (x ∷ xs) z zero d d′ l = refl
+mapped-at h (x ∷ xs) z (suc i) d d′ l = mapped-at h xs z i d d′ (omega arith)

@@ -1,0 +1,199 @@
+-- Demand 3 for every lawful construction, proved once.
+-- A system s with a keeper k that is lawful for a condition is explored from a start within a capacity that is not exceeded. The table
+-- of rows, with whatever stands behind them in the arrays, is a system that projects onto s; on a closed walk every transition is
+-- inside, so the memory is carried along it and the largest priority is the keeper's; so closed walks agree, and with them words.
+--     rows-fit         every row found stands at a state, with a memory that fits it
+--     target-at, priority-at, source-at     what the arrays hold for a row and a letter
+--     projects         the table of rows projects onto s
+--     walk-carried     along a closed walk the rows carry the keeper's memory and priorities
+--     paths-agree, walks-agree, looped-words-agree     closed paths, closed walks and looped words agree
+use mathlib.Core.Path.{_≡_, refl, sym, ap, ap₂, _∙_, subst}
+use mathlib.Core.Bool.{Bool, true, false, _&&_}
+use mathlib.Core.List.{List, [], _∷_, _++_, map}
+use Prim.Native.Nat.{ℕ, zero, suc, _+_, _*_, _≤_, _<_, max}
+use native.Mathlib.Nat.{zero-add}
+use native.Mathlib.Omega.{arith}
+use lib.Dec.{eqb, ltb, leb}
+use lib.ListN.{length, getD}
+use borrow.Author.Tests.{eqb-true, eq-eqb, ltb-true, leb-true, leb-false}
+use Rattle.rules.specs.Basics.{pick, SameSet, tabulate, joined, largest, isEven}
+use Rattle.rules.specs.Limits.{noRow}
+use Rattle.rules.specs.Systems.{System, isInside, Path, here, step}
+use Rattle.rules.specs.Runs.{Taken, taken, passFrom, strayLetter, goesFrom, endOf, isClosedWalk}
+use Rattle.rules.specs.Rows.{Step, Plan, Row, row, Keeper, stepOf, sameRow, planOf, numberOf, rowsOf, isFull, rowAt, targetNumber, allTargets, allPriorities, sources}
+use Rattle.rules.specs.Constructions.{memoryAfter, largestAlong, Lawful}
+use Rattle.rules.specs.Tables.{cell}
+use Rattle.rules.specs.Judges.{Answer, judgedBy, paritySystem, priorityAt, parityGood}
+use Rattle.rules.specs.Claims.{projected}
+use Rattle.rules.proofs.Bools.{by, clash, and-parts, and-both}
+use Rattle.rules.proofs.Sets.{largest-same}
+use Rattle.rules.proofs.Reach.{path-append, Leads, inside-of-return}
+use Rattle.rules.proofs.Agreement.{Projects, path-projects, words-agree}
+use Rattle.rules.proofs.Exploration.{rows-first, rows-some, rows-all, rows-closed, rows-within, row-numbered}
+use Rattle.rules.proofs.Arrays.{tabulate-length, tabulate-at, joined-at, mapped-at}
+use Rattle.rules.proofs.Steps.{step-missing, step-inside, step-crossing, step-there, step-source, step-present}
+
+-- ---- a closed walk is what some letters take from the state that it leaves
+walk-path : (s : System) (xs : List Taken) (p : ℕ) → goesFrom s p xs ≡ true → (w : List ℕ) × (xs ≡ passFrom s p w) × Path s p w (endOf s p xs)
+walk-path s [] p h = ([], refl, here)
+walk-path s (x ∷ xs) p h =
+    let y = s .go (x .from) (x .by) in
+    let a = and-parts (eqb p (x .from)) (ltb (x .from) (s .states) && (ltb (x .by) (s .letters) && (ltb y (s .states) && goesFrom s y xs))) h in
+    let b = and-parts (ltb (x .from) (s .states)) (ltb (x .by) (s .letters) && (ltb y (s .states) && goesFrom s y xs)) (a .1) in
+    let c = and-parts (ltb (x .by) (s .letters)) (ltb y (s .states) && goesFrom s y xs) (b .1) in
+    let d = and-parts (ltb y (s .states)) (goesFrom s y xs) (c .1) in
+    let r = walk-path s xs y (d .1) in
+    let whole : Path s (x .from) (x .by ∷ r .0) (endOf s y xs) = step (ltb-true (x .by) (s .letters) (c .0)) (ltb-true y (s .states) (d .0)) (r .2) in
+    rw (eqb-true p (x .from) (a .0)) (x .by ∷ r .0, ap (λ (z : List Taken). x ∷ z) (r .1), whole)
+
+pass-length : (s : System) (w : List ℕ) (p : ℕ) → length (passFrom s p w) ≡ length w
+pass-length s [] p = refl
+pass-length s (a ∷ w) p = ap suc (pass-length s w (s .go p a))
+
+pub record ClosedPath (s : System) (xs : List Taken) : Type 0 where
+  pub place : ℕ
+  pub letters : List ℕ
+  pub is-state : place < s .states
+  pub some : 0 < length letters
+  pub taken-by : xs ≡ passFrom s place letters
+  pub path : Path s place letters place
+
+pub closed-path : (s : System) (xs : List Taken) → isClosedWalk s xs ≡ true → ClosedPath s xs
+closed-path s [] h = clash h refl
+closed-path s (x ∷ xs) h =
+    let p = x .from in
+    let g = and-parts (goesFrom s p (x ∷ xs)) (eqb (endOf s p (x ∷ xs)) p) h in
+    let r = walk-path s (x ∷ xs) p (g .0) in
+    let y = s .go p (x .by) in
+    let tail = ltb (x .by) (s .letters) && (ltb y (s .states) && goesFrom s y xs) in
+    let b = and-parts (eqb p p) (ltb p (s .states) && tail) (g .0) in
+    record
+      { place = p
+      ; letters = r .0
+      ; is-state = ltb-true p (s .states) (and-parts (ltb p (s .states)) tail (b .1) .0)
+      ; some = omega (arith, ap length (r .1), pass-length s (r .0) p)
+      ; taken-by = r .1
+      ; path = subst (λ (z : ℕ). Path s p (r .0) z) (eqb-true (endOf s p (x ∷ xs)) p (g .1)) (r .2)
+      }
+
+module _ {M : Type 0} (s : System) (start : ℕ) (k : Keeper M) (good : List Taken → Bool) (Fits : ℕ → M → Type 0) (law : Lawful s k good Fits) (is-start : start < s .states) (c : ℕ) (not-full : isFull (planOf s start k) c ≡ false) (narrow : c ≤ noRow) where
+  abbrev g : Plan (Row M)
+  g = planOf s start k
+
+  abbrev rs : List (Row M)
+  rs = rowsOf g c
+
+  -- the row of a number, its source state and its memory
+  abbrev at : ℕ → Row M
+  at i = rowAt g rs i
+
+  same-equal : (x y : Row M) → g .same x y ≡ true → x ≡ y
+  same-equal x y h = let r = and-parts (eqb (x .source) (y .source)) (k .same (x .memory) (y .memory)) h in ap₂ row (eqb-true (x .source) (y .source) (r .0)) (law .same-equal (x .memory) (y .memory) (r .1))
+
+  same-refl : (x : Row M) → g .same x x ≡ true
+  same-refl x = and-both (eqb (x .source) (x .source)) (k .same (x .memory) (x .memory)) (eq-eqb (x .source) (x .source) refl) (law .same-refl (x .memory))
+
+  -- ---- the rows
+  abbrev RowFits : Row M → Type 0
+  RowFits r = (r .source < s .states) × Fits (r .source) (r .memory)
+
+  step-fits : (r : Row M) (a : ℕ) → a < s .letters → RowFits r → stepOf s k r a .there ≡ true → RowFits (stepOf s k r a .to)
+  step-fits r a l f t =
+      let h = step-present s k r a t in
+      let q = r .source in
+      by
+        (isInside s q a)
+        (λ i. rw (step-inside s k r a h i) (h, law .fits-move q a (r .memory) (f .0) l i (f .1)))
+        (λ i. rw (step-crossing s k r a h i) (h, law .fits-enter (s .go q a) h))
+
+  pub rows-fit : (i : ℕ) → i < length rs → RowFits (at i)
+  rows-fit = rows-all g same-equal same-refl c RowFits (is-start, law .fits-enter start is-start) step-fits
+
+  -- ---- the arrays, with whatever stands behind the rows
+  module _ (za zb zd : List ℕ) where
+    abbrev ts : List ℕ
+    ts = allTargets g noRow rs ++ za
+
+    abbrev ps : List ℕ
+    ps = allPriorities g rs ++ zb
+
+    abbrev ss : List ℕ
+    ss = sources rs ++ zd
+
+    abbrev P : System
+    P = paritySystem (length rs) (s .letters) ts
+
+    abbrev source : ℕ → ℕ
+    source i = at i .source
+
+    target-at : (i a : ℕ) → i < length rs → a < s .letters → P .go i a ≡ targetNumber g noRow rs (at i) a
+    target-at i a l la = joined-at (λ r. tabulate (s .letters) 0 (targetNumber g noRow rs r)) (s .letters) (λ r. tabulate-length (targetNumber g noRow rs r) (s .letters) 0) rs za i a noRow (g .first) l la ∙ tabulate-at (targetNumber g noRow rs (at i)) (s .letters) 0 a noRow la ∙ ap (targetNumber g noRow rs (at i)) (zero-add a)
+
+    priority-at : (i a : ℕ) → i < length rs → a < s .letters → priorityAt (s .letters) ps (taken i a) ≡ stepOf s k (at i) a .prio
+    priority-at i a l la = joined-at (λ r. tabulate (s .letters) 0 (λ b. stepOf s k r b .prio)) (s .letters) (λ r. tabulate-length (λ b. stepOf s k r b .prio) (s .letters) 0) rs zb i a 0 (g .first) l la ∙ tabulate-at (λ b. stepOf s k (at i) b .prio) (s .letters) 0 a 0 la ∙ ap (λ (b : ℕ). stepOf s k (at i) b .prio) (zero-add a)
+
+    source-at : (i : ℕ) → i < length rs → getD ss i 0 ≡ source i
+    source-at i l = mapped-at (λ r. r .source) rs zd i 0 (g .first) l
+
+    -- ---- the table of rows projects onto the system
+    -- a transition that is there leads to the row of its step
+    target-there : (i a : ℕ) → i < length rs → a < s .letters → s .go (source i) a < s .states → (P .go i a < length rs) × (at (P .go i a) ≡ stepOf s k (at i) a .to)
+    target-there i a l la h =
+        let t = step-there s k (at i) a h in
+        let n = rows-closed g same-equal same-refl c not-full i a l la t in
+        let e : P .go i a ≡ numberOf g (stepOf s k (at i) a .to) rs = target-at i a l la ∙ rw t in
+        rw e (n, row-numbered g same-equal same-refl c (stepOf s k (at i) a .to) n)
+
+    target-missing : (i a : ℕ) → i < length rs → a < s .letters → s .states ≤ s .go (source i) a → P .go i a ≡ noRow
+    target-missing i a l la h = target-at i a l la ∙ rw (step-missing s k (at i) a h)
+
+    few : length rs ≤ noRow
+    few = omega (arith, rows-within g same-equal same-refl c not-full)
+
+    -- a target is a row exactly if the transition is there
+    present : (i a : ℕ) → i < length rs → a < s .letters → P .go i a < length rs → s .go (source i) a < s .states
+    present i a l la h = by (leb (s .states) (s .go (source i) a)) (λ e. absurd (omega (arith, few, target-missing i a l la (leb-true (s .states) (s .go (source i) a) e)))) (λ e. leb-false (s .states) (s .go (source i) a) e)
+
+    missing : (i a : ℕ) → i < length rs → a < s .letters → length rs ≤ P .go i a → s .states ≤ s .go (source i) a
+    missing i a l la h = by (leb (s .states) (s .go (source i) a)) (λ e. leb-true (s .states) (s .go (source i) a) e) (λ e. absurd (omega (arith, target-there i a l la (leb-false (s .states) (s .go (source i) a) e) .0)))
+
+    pub projects : Projects P s source
+    projects = record { same-letters = refl; state = λ i l. rows-fit i l .0; missing = missing; present = present; target = λ i a l la h. let d = present i a l la h in ap (λ (r : Row M). r .source) (target-there i a l la d .1) ∙ step-source s k (at i) a d }
+
+    -- ---- closed walks
+    -- along a path with a way back every transition is inside, so the memory and the priorities are the keeper's
+    walk-carried : {i : ℕ} {w : List ℕ} {j : ℕ} → i < length rs → Path P i w j → Leads s (source j) (source i) → (at j .memory ≡ memoryAfter s k (source i) (at i .memory) w) × (largest (priorityAt (s .letters) ps) (passFrom P i w) ≡ largestAlong s k (source i) (at i .memory) w)
+    walk-carried l here back = (refl, refl)
+    walk-carried {i} {j = j} l (step {a = a} {w = w} la t r) back =
+        let q = source i in
+        let d = present i a l la t in
+        let e : source (P .go i a) ≡ s .go q a = projects .target i a l la t in
+        let on : Path s (s .go q a) w (source j) = rw e at (path-projects P s source projects t r) in
+        let inside = inside-of-return s la d (path-append s on (back .1)) in
+        let stepped = step-inside s k (at i) a d inside in
+        let next : at (P .go i a) ≡ row (s .go q a) (k .move q a (at i .memory)) = target-there i a l la d .1 ∙ ap (λ (x : Step (Row M)). x .to) stepped in
+        let one : Path s q (a ∷ []) (s .go q a) = step la d here in
+        let rest = walk-carried t r (back .0 ++ (a ∷ []), rw e (path-append s (back .1) one)) in
+        ( rest .0 ∙ ap (λ (x : Row M). memoryAfter s k (x .source) (x .memory) w) next,
+          ap₂ max (priority-at i a l la ∙ ap (λ (x : Step (Row M)). x .prio) stepped) (rest .1 ∙ ap (λ (x : Row M). largestAlong s k (x .source) (x .memory) w) next) )
+
+    pub paths-agree : (i : ℕ) (w : List ℕ) → i < length rs → 0 < length w → Path P i w i → parityGood (s .letters) ps (passFrom P i w) ≡ good (passFrom s (source i) w)
+    paths-agree i [] l some p = absurd (omega arith)
+    paths-agree i (a ∷ w) l some p =
+        let carried = walk-carried l p ([], here) in
+        ap isEven (carried .1) ∙ law .loop (source i) (at i .memory) a w (path-projects P s source projects l p) (rows-fit i l .1) (sym (carried .0))
+
+    pass-projected : {i : ℕ} {w : List ℕ} {j : ℕ} → i < length rs → Path P i w j → projected ss (passFrom P i w) ≡ passFrom s (source i) w
+    pass-projected l here = refl
+    pass-projected {i} l (step {a = a} {w = w} la t r) = ap₂ (λ (q : ℕ) (z : List Taken). taken q a ∷ z) (source-at i l) (pass-projected t r ∙ ap (λ (q : ℕ). passFrom s q w) (projects .target i a l la t))
+
+    pub walks-agree : (xs : List Taken) → isClosedWalk P xs ≡ true → parityGood (s .letters) ps xs ≡ good (projected ss xs)
+    walks-agree xs h =
+        let z = closed-path P xs h in
+        rw (z .taken-by) (paths-agree (z .place) (z .letters) (z .is-state) (z .some) (z .path) ∙ ap good (sym (pass-projected (z .is-state) (z .path))))
+
+    -- ---- looped words
+    pub looped-words-agree : (lead l : List ℕ) → 0 < length l → strayLetter (s .letters) lead ≡ false → strayLetter (s .letters) l ≡ false → judgedBy P 0 lead l (parityGood (s .letters) ps) ≡ judgedBy s start lead l good
+    looped-words-agree lead l some lead-ok l-ok =
+        words-agree P s source projects (parityGood (s .letters) ps) good (λ xs ys e. ap isEven (largest-same (priorityAt (s .letters) ps) xs ys e)) (law .set-only) paths-agree 0 lead l (rows-some g same-equal same-refl c) some lead-ok l-ok
+        ∙ ap (λ (r : Row M). judgedBy s (r .source) lead l good) (rows-first g same-equal same-refl c)
