@@ -56,9 +56,9 @@ module _ (p : ℕ → Bool) where
   keep-free x [] h = refl
   keep-free x (i ∷ o) h = by (p i) (λ e. rw e (by (eqb x i) (λ f. clash e (rw (eqb-true x i f) at h)) (λ f. rw (f, keep-free x o h)))) (λ e. rw e (keep-free x o h))
 
-  pub others-hold : (x : ℕ) (o : List ℕ) → p x ≡ false → isIn x (others o) ≡ isIn x o
-  others-hold x [] h = refl
-  others-hold x (i ∷ o) h = by (p i) (λ e. rw e (by (eqb x i) (λ f. clash e (rw (eqb-true x i f) at h)) (λ f. rw f (others-hold x o h)))) (λ e. rw e (rw (others-hold x o h)))
+  pub keep-hold : (x : ℕ) (o : List ℕ) → p x ≡ true → isIn x (keep p o) ≡ isIn x o
+  keep-hold x [] h = refl
+  keep-hold x (i ∷ o) h = by (p i) (λ e. rw e (rw (keep-hold x o h))) (λ e. rw e (by (eqb x i) (λ f. clash h (rw (← eqb-true x i f) at e)) (λ f. rw f (keep-hold x o h))))
 
 -- ---- what stands behind a pair
 abbrev pub after : ℕ → List ℕ → List ℕ
@@ -77,11 +77,11 @@ after-others : (p : ℕ → Bool) (x : ℕ) (o : List ℕ) → p x ≡ false →
 after-others p x [] h = refl
 after-others p x (i ∷ o) h = by (p i) (λ e. rw e (by (eqb x i) (λ f. clash e (rw (eqb-true x i f) at h)) (λ f. rw f (after-others p x o h)))) (λ e. rw e (by (eqb x i) (λ f. rw f) (λ f. rw f (after-others p x o h))))
 
-occurs-none : (x : ℕ) (o : List ℕ) → occurs x o ≡ 0 → isIn x o ≡ false
+pub occurs-none : (x : ℕ) (o : List ℕ) → occurs x o ≡ 0 → isIn x o ≡ false
 occurs-none x [] h = refl
 occurs-none x (i ∷ o) h = by (eqb x i) (λ e. absurd (omega (arith, rw e at h))) (λ e. rw e (occurs-none x o (rw e at h)))
 
-none-occurs : (x : ℕ) (o : List ℕ) → isIn x o ≡ false → occurs x o ≡ 0
+pub none-occurs : (x : ℕ) (o : List ℕ) → isIn x o ≡ false → occurs x o ≡ 0
 none-occurs x [] h = refl
 none-occurs x (i ∷ o) h = let r = or-none (eqb x i) (isIn x o) h in rw (r .0) (none-occurs x o (r .1))
 
@@ -174,7 +174,7 @@ module _ (arr : List ℕ → List ℕ) (law : Rearranges arr) where
     after-moved x o h = after-append x (arr (keep p o)) (others p o) (arranged-free x o h) ∙ after-others p x o h
 
     moved-holds : (x : ℕ) (o : List ℕ) → p x ≡ false → isIn x (moved arr p o) ≡ isIn x o
-    moved-holds x o h = any-append (λ y. eqb x y) (arr (keep p o)) (others p o) ∙ rw (arranged-free x o h) (others-hold p x o h)
+    moved-holds x o h = any-append (λ y. eqb x y) (arr (keep p o)) (others p o) ∙ rw (arranged-free x o h) (keep-hold (λ i. not (p i)) x o (rw h))
 
     pub drop-moved : (k : ℕ) (o : List ℕ) → any p (drop k o) ≡ false → drop k (moved arr p o) ≡ drop k o
     drop-moved k o h = by (leb k (length o)) (λ e. within (leb-true k (length o) e)) (λ e. past (leb-false k (length o) e))

@@ -2,7 +2,7 @@
 -- A system s with a keeper k that is lawful for a condition is explored from a start within a capacity that is not exceeded. The table
 -- of rows, with whatever stands behind them in the arrays, is a system that projects onto s; on a closed walk every transition is
 -- inside, so the memory is carried along it and the largest priority is the keeper's; so closed walks agree, and with them words.
---     rows-fit         every row found stands at a state, with a memory that fits it
+--     reached-fits     every reachable row stands at a state, with a memory that fits it
 --     target-at, priority-at, source-at     what the arrays hold for a row and a letter
 --     projects         the table of rows projects onto s
 --     walk-carried     along a closed walk the rows carry the keeper's memory and priorities
@@ -20,7 +20,7 @@ use Rattle.rules.specs.Basics.{pick, SameSet, tabulate, joined, largest,
 use Rattle.rules.specs.Limits.{noRow}
 use Rattle.rules.specs.Systems.{System, isInside, Path, here, step}
 use Rattle.rules.specs.Runs.{Taken, taken, passFrom, strayLetter, goesFrom, endOf, isClosedWalk}
-use Rattle.rules.specs.Rows.{Step, Plan, Row, row, Keeper, stepOf, sameRow, planOf, numberOf, rowsOf, isFull, rowAt, targetNumber, allTargets, allPriorities, sources}
+use Rattle.rules.specs.Rows.{Step, Plan, Row, row, Keeper, stepOf, sameRow, planOf, numberOf, rowsOf, isFull, rowAt, Reached, first-row, next-row, targetNumber, allTargets, allPriorities, sources}
 use Rattle.rules.specs.Constructions.{memoryAfter, largestAlong, Lawful}
 use Rattle.rules.specs.Tables.{cell}
 use Rattle.rules.specs.Judges.{Answer, judgedBy, paritySystem, priorityAt, parityGood}
@@ -29,7 +29,7 @@ use Rattle.rules.proofs.Bools.{by, clash, and-parts, and-both}
 use Rattle.rules.proofs.Sets.{largest-same}
 use Rattle.rules.proofs.Reach.{path-append, Leads, inside-of-return}
 use Rattle.rules.proofs.Agreement.{Projects, path-projects, words-agree}
-use Rattle.rules.proofs.Exploration.{rows-first, rows-some, rows-all, rows-closed, rows-within, row-numbered}
+use Rattle.rules.proofs.Exploration.{rows-first, rows-some, rows-reached, rows-closed, rows-within, row-numbered}
 use Rattle.rules.proofs.Arrays.{tabulate-length, tabulate-at, joined-at, mapped-at}
 use Rattle.rules.proofs.Steps.{step-missing, step-inside, step-crossing, step-there, step-source, step-present}
 
@@ -76,6 +76,24 @@ closed-path s (x ∷ xs) h =
       ; path = subst (λ (z : ℕ). Path s p (r .0) z) (eqb-true (endOf s p (x ∷ xs)) p (g .1)) (r .2)
       }
 
+-- ---- the rows
+module _ {M : Type 0} (s : System) (start : ℕ) (k : Keeper M) (good : List Taken → Bool) (Fits : ℕ → M → Type 0) (law : Lawful s k good Fits) (is-start : start < s .states) where
+  abbrev RowFits : Row M → Type 0
+  RowFits r = (r .source < s .states) × Fits (r .source) (r .memory)
+
+  step-fits : (r : Row M) (a : ℕ) → a < s .letters → RowFits r → stepOf s k r a .there ≡ true → RowFits (stepOf s k r a .to)
+  step-fits r a l f t =
+      let h = step-present s k r a t in
+      let q = r .source in
+      by
+        (isInside s q a)
+        (λ i. rw (step-inside s k r a h i) (h, law .fits-move q a (r .memory) (f .0) l i (f .1)))
+        (λ i. rw (step-crossing s k r a h i) (h, law .fits-enter (s .go q a) h))
+
+  pub reached-fits : {r : Row M} → Reached (planOf s start k) r → RowFits r
+  reached-fits first-row = (is-start, law .fits-enter start is-start)
+  reached-fits (next-row {r = r} {a = a} h l t) = step-fits r a l (reached-fits h) t
+
 module _ {M : Type 0} (s : System) (start : ℕ) (k : Keeper M) (good : List Taken → Bool) (Fits : ℕ → M → Type 0) (law : Lawful s k good Fits) (is-start : start < s .states) (c : ℕ) (not-full : isFull (planOf s start k) c ≡ false) (narrow : c ≤ noRow) where
   abbrev g : Plan (Row M)
   g = planOf s start k
@@ -93,21 +111,8 @@ module _ {M : Type 0} (s : System) (start : ℕ) (k : Keeper M) (good : List Tak
   same-refl : (x : Row M) → g .same x x ≡ true
   same-refl x = and-both (eqb (x .source) (x .source)) (k .same (x .memory) (x .memory)) (eq-eqb (x .source) (x .source) refl) (law .same-refl (x .memory))
 
-  -- ---- the rows
-  abbrev RowFits : Row M → Type 0
-  RowFits r = (r .source < s .states) × Fits (r .source) (r .memory)
-
-  step-fits : (r : Row M) (a : ℕ) → a < s .letters → RowFits r → stepOf s k r a .there ≡ true → RowFits (stepOf s k r a .to)
-  step-fits r a l f t =
-      let h = step-present s k r a t in
-      let q = r .source in
-      by
-        (isInside s q a)
-        (λ i. rw (step-inside s k r a h i) (h, law .fits-move q a (r .memory) (f .0) l i (f .1)))
-        (λ i. rw (step-crossing s k r a h i) (h, law .fits-enter (s .go q a) h))
-
-  pub rows-fit : (i : ℕ) → i < length rs → RowFits (at i)
-  rows-fit = rows-all g same-equal same-refl c RowFits (is-start, law .fits-enter start is-start) step-fits
+  rows-fit : (i : ℕ) → i < length rs → (at i .source < s .states) × Fits (at i .source) (at i .memory)
+  rows-fit i l = reached-fits s start k good Fits law is-start (rows-reached g same-equal same-refl c i l)
 
   -- ---- the arrays, with whatever stands behind the rows
   module _ (za zb zd : List ℕ) where

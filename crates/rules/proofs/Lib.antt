@@ -11,4 +11,5 @@ pub mod Exploration
 pub mod Arrays
 pub mod Steps
 pub mod Demand3
+pub mod RabinTables
 pub mod Cards

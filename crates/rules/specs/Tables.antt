@@ -8,14 +8,16 @@
 --     systemOf t               the table's transition system
 --     counts t q i             pair i counts in q's component: some inside transition of it has the required bit
 --     rising t q               the pairs that count in q's component, rising
+--     IsOrdering t q o         o holds each pair that counts in q's component once, and nothing else
 --     recordKeeper t           index appearance records as the memory of rows
 --     tablePlan t              the rows of the table's translation
+use mathlib.Core.Path.{_≡_}
 use mathlib.Core.Bool.{Bool, false, not, _&&_, _||_}
 use mathlib.Core.List.{List, [], _∷_, map}
 use Prim.Native.Nat.{ℕ, suc, _+_, _-_, _*_, _^_}
 use lib.Dec.{eqb, ltb, leb}
 use lib.ListN.{length, getD, take, drop}
-use Rattle.rules.specs.Basics.{any, firstOf, when, keep, tabulate, bit}
+use Rattle.rules.specs.Basics.{pick, any, firstOf, when, occurs, keep, tabulate, bit}
 use Rattle.rules.specs.Limits.{maxStates, maxLetters, maxPairs, headerSize, noState}
 use Rattle.rules.specs.Refusals as Refusal
 use Rattle.rules.specs.Systems.{System, metWithin}
@@ -84,6 +86,12 @@ counts t q i = metWithin (systemOf t) (λ p a. requires t p a i) q
 
 abbrev pub rising : Table → ℕ → List ℕ
 rising t q = keep (counts t q) (tabulate (t .pairs) 1 (λ i. i))
+
+abbrev pub isCounted : Table → ℕ → ℕ → Bool
+isCounted t q i = leb 1 i && (leb i (t .pairs) && counts t q i)
+
+abbrev pub IsOrdering : Table → ℕ → List ℕ → Type 0
+IsOrdering t q o = (i : ℕ) → occurs i o ≡ pick (isCounted t q i) 1 0
 
 abbrev pub marksOf : Table → ℕ → ℕ → Marks
 marksOf t q a = record { prohibited = prohibits t q a; required = requires t q a }
