@@ -1,16 +1,19 @@
 -- What stands where in an array that joins one list for each row, with whatever stands behind it.
 --     tabulate-length, tabulate-at     a tabulated list
 --     joined-length, joined-at         lists of one length, joined: the cell of row i and letter a is number i · m + a
+--     tabulate-none, joined-none       where nothing passes a test, in each place or in each list
 --     mapped-at                        one number for each row
 use mathlib.Core.Path.{_≡_, refl, sym, ap, _∙_}
+use mathlib.Core.Bool.{Bool, false}
 use mathlib.Core.List.{List, [], _∷_, _++_, append-assoc, map}
 use Prim.Native.Nat.{ℕ, zero, suc, _+_, _*_, _≤_, _<_}
 use native.Mathlib.Nat.{suc-mul, zero-mul}
 use native.Mathlib.Omega.{arith}
 use lib.ListN.{length, getD, length-append, List·getD-append}
 use lib.Seq.{getD-append-add}
-use Rattle.rules.specs.Basics.{tabulate, joined}
+use Rattle.rules.specs.Basics.{any, tabulate, joined}
 use Rattle.rules.specs.Tables.{cell}
+use Rattle.rules.proofs.Sets.{any-append}
 
 module _ {B : Type 0} (h : ℕ → B) where
   pub tabulate-length : (n i : ℕ) → length (tabulate n i h) ≡ n
@@ -33,6 +36,15 @@ module _ {A B : Type 0} (h : A → List B) (m : ℕ) (even : (x : A) → length 
   joined-at (x ∷ xs) z (suc i) a d d′ l la =
       let e : cell m (suc i) a ≡ length (h x) + cell m i a = rw suc-mul (omega (arith, even x)) in
       rw (append-assoc (h x) (joined h xs) z, e) (getD-append-add (h x) (joined h xs ++ z) (cell m i a) d ∙ joined-at xs z i a d d′ (omega arith) la)
+
+-- tests that nothing passes
+pub tabulate-none : {B : Type 0} (b : B → Bool) (h : ℕ → B) (n i : ℕ) → ((a : ℕ) → i ≤ a → a < i + n → b (h a) ≡ false) → any b (tabulate n i h) ≡ false
+tabulate-none b h zero i f = refl
+tabulate-none b h (suc n) i f = rw (f i (omega arith) (omega arith)) (tabulate-none b h n (suc i) (λ a l u. f a (omega arith) (omega arith)))
+
+pub joined-none : {A B : Type 0} (b : B → Bool) (h : A → List B) (d : A) (xs : List A) → ((i : ℕ) → i < length xs → any b (h (getD xs i d)) ≡ false) → any b (joined h xs) ≡ false
+joined-none b h d [] f = refl
+joined-none b h d (x ∷ xs) f = any-append b (h x) (joined h xs) ∙ rw (f 0 (omega arith)) (joined-none b h d xs (λ i l. f (suc i) (omega arith)))
 
 pub mapped-at : {A B : Type 0} (h : A → B) (xs : List A) (z : List B) (i : ℕ) (d : B) (d′ : A) → i < length xs → getD (map h xs ++ z) i d ≡ h (getD xs i d′)
 mapped-at h [] z i d d′ l = absurd (omega arith)

@@ -8,30 +8,31 @@
 --     walk-carried     along a closed walk the rows carry the keeper's memory and priorities
 --     paths-agree, walks-agree, looped-words-agree     closed paths, closed walks and looped words agree
 use mathlib.Core.Path.{_≡_, refl, sym, ap, ap₂, _∙_, subst}
-use mathlib.Core.Bool.{Bool, true, false, _&&_}
+use mathlib.Core.Bool.{Bool, true, false, not, _&&_, _||_}
 use mathlib.Core.List.{List, [], _∷_, _++_, map}
 use Prim.Native.Nat.{ℕ, zero, suc, _+_, _*_, _≤_, _<_, max}
 use native.Mathlib.Nat.{zero-add}
 use native.Mathlib.Omega.{arith}
 use lib.Dec.{eqb, ltb, leb}
-use lib.ListN.{length, getD}
-use borrow.Author.Tests.{eqb-true, eq-eqb, ltb-true, leb-true, leb-false}
+use lib.ListN.{length, getD, take}
+use lib.Seq.{take-at}
+use borrow.Author.Tests.{eqb-true, eq-eqb, ltb-true, lt-ltb, leb-true, leb-false}
 use Rattle.rules.specs.Basics.{pick, SameSet, tabulate, joined, largest, isEven}
 use Rattle.rules.specs.Limits.{noRow}
 use Rattle.rules.specs.Systems.{System, isInside, Path, here, step}
 use Rattle.rules.specs.Runs.{Taken, taken, passFrom, strayLetter, goesFrom, endOf, isClosedWalk}
 use Rattle.rules.specs.Rows.{Step, Plan, Row, row, Keeper, stepOf, sameRow, planOf, numberOf, rowsOf, isFull, rowAt, Reached, first-row, next-row, targetNumber, allTargets, allPriorities, sources}
 use Rattle.rules.specs.Constructions.{memoryAfter, largestAlong, Lawful}
-use Rattle.rules.specs.Tables.{cell}
+use Rattle.rules.specs.Tables.{cell, targetFault}
 use Rattle.rules.specs.Judges.{Answer, judgedBy, paritySystem, priorityAt, parityGood}
 use Rattle.rules.specs.Claims.{projected}
-use Rattle.rules.proofs.Bools.{by, clash, and-parts, and-both}
+use Rattle.rules.proofs.Bools.{by, clash, or-right, and-parts}
 use Rattle.rules.proofs.Sets.{largest-same}
 use Rattle.rules.proofs.Reach.{path-append, Leads, inside-of-return}
 use Rattle.rules.proofs.Agreement.{Projects, path-projects, words-agree}
 use Rattle.rules.proofs.Exploration.{rows-first, rows-some, rows-reached, rows-closed, rows-within, row-numbered}
-use Rattle.rules.proofs.Arrays.{tabulate-length, tabulate-at, joined-at, mapped-at}
-use Rattle.rules.proofs.Steps.{step-missing, step-inside, step-crossing, step-there, step-source, step-present}
+use Rattle.rules.proofs.Arrays.{tabulate-length, tabulate-at, tabulate-none, joined-length, joined-at, joined-none, mapped-at}
+use Rattle.rules.proofs.Steps.{step-missing, step-inside, step-crossing, step-there, step-source, step-present, same-row-equal, same-row-refl}
 
 -- ---- a closed walk is what some letters take from the state that it leaves
 walk-path : (s : System) (xs : List Taken) (p : ℕ) → goesFrom s p xs ≡ true → (w : List ℕ) × (xs ≡ passFrom s p w) × Path s p w (endOf s p xs)
@@ -106,10 +107,10 @@ module _ {M : Type 0} (s : System) (start : ℕ) (k : Keeper M) (good : List Tak
   at i = rowAt g rs i
 
   same-equal : (x y : Row M) → g .same x y ≡ true → x ≡ y
-  same-equal x y h = let r = and-parts (eqb (x .source) (y .source)) (k .same (x .memory) (y .memory)) h in ap₂ row (eqb-true (x .source) (y .source) (r .0)) (law .same-equal (x .memory) (y .memory) (r .1))
+  same-equal = same-row-equal k (law .same-equal)
 
   same-refl : (x : Row M) → g .same x x ≡ true
-  same-refl x = and-both (eqb (x .source) (x .source)) (k .same (x .memory) (x .memory)) (eq-eqb (x .source) (x .source) refl) (law .same-refl (x .memory))
+  same-refl = same-row-refl k (law .same-refl)
 
   rows-fit : (i : ℕ) → i < length rs → (at i .source < s .states) × Fits (at i .source) (at i .memory)
   rows-fit i l = reached-fits s start k good Fits law is-start (rows-reached g same-equal same-refl c i l)
@@ -154,6 +155,18 @@ module _ {M : Type 0} (s : System) (start : ℕ) (k : Keeper M) (good : List Tak
 
     few : length rs ≤ noRow
     few = omega (arith, rows-within g same-equal same-refl c not-full)
+
+    pub targets-taken : targetFault (length rs) noRow (take (length rs * s .letters) ts) ≡ false
+    targets-taken = rw (take-at (allTargets g noRow rs) za (length rs * s .letters) (joined-length (λ r. tabulate (s .letters) 0 (targetNumber g noRow rs r)) (s .letters) (λ r. tabulate-length (targetNumber g noRow rs r) (s .letters) 0) rs)) (joined-none stray (λ r. tabulate (s .letters) 0 (targetNumber g noRow rs r)) (g .first) rs (λ i l. tabulate-none stray (targetNumber g noRow rs (at i)) (s .letters) 0 (λ a low la. taken-at i a l (omega arith))))
+      where
+        stray : ℕ → Bool
+        stray x = not (ltb x (length rs) || eqb x noRow)
+        taken-at : (i a : ℕ) → i < length rs → a < s .letters → stray (targetNumber g noRow rs (at i) a) ≡ false
+        taken-at i a l la =
+            by
+              (stepOf s k (at i) a .there)
+              (λ t. rw (t, lt-ltb (numberOf g (stepOf s k (at i) a .to) rs) (length rs) (rows-closed g same-equal same-refl c not-full i a l la t)))
+              (λ t. rw (t, or-right (ltb noRow (length rs)) true refl))
 
     -- a target is a row exactly if the transition is there
     present : (i a : ℕ) → i < length rs → a < s .letters → P .go i a < length rs → s .go (source i) a < s .states

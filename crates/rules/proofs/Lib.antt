@@ -12,4 +12,6 @@ pub mod Arrays
 pub mod Steps
 pub mod Demand3
 pub mod RabinTables
+pub mod Numbers
+pub mod Demands
 pub mod Cards

@@ -81,7 +81,7 @@ module _ (t : Table) where
   moved-ordering q a o h f = ordering-together q (s .go q a) (moved asTheyStood (prohibits t q a) o) (inside-parts s q a h .1) (λ i. moved-occurs asTheyStood stood-rearranges (prohibits t q a) i o ∙ f i)
 
   -- what an ordering holds
-  ordering-holds : (q i : ℕ) (o : List ℕ) → IsOrdering t q o → isIn i o ≡ isCounted t q i
+  pub ordering-holds : (q i : ℕ) (o : List ℕ) → IsOrdering t q o → isIn i o ≡ isCounted t q i
   ordering-holds q i o f = by (isCounted t q i) (λ e. by (isIn i o) (λ h. h ∙ sym e) (λ h. absurd (omega (arith, none-occurs i o h, once e)))) (λ e. occurs-none i o (f i ∙ rw e) ∙ sym e)
     where
       once : isCounted t q i ≡ true → occurs i o ≡ 1
