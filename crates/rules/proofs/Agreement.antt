@@ -46,54 +46,56 @@ module _ (P S : System) (f : ℕ → ℕ) (sim : Projects P S f) where
   stop-projects b x = record { before = x .before; next = x .next; later = x .later; place = f (x .place); piece = x .piece; path = path-projects b (x .path); letter = rw (sim .same-letters) at (x .letter); absent = sim .missing (x .place) (x .next) (path-below P b (x .path)) (x .letter) (x .absent) }
 
   module _
-    (goodP goodS : List Taken → Bool)
-    (setP : (xs ys : List Taken) → SameSet xs ys → goodP xs ≡ goodP ys)
-    (setS : (xs ys : List Taken) → SameSet xs ys → goodS xs ≡ goodS ys)
-    (walks : (p : ℕ) (w : List ℕ) → p < P .states → 0 < length w → Path P p w p → goodP (passFrom P p w) ≡ goodS (passFrom S (f p) w))
-    (p : ℕ)
-    (lead l : List ℕ)
-    (b : p < P .states)
-    (some : 0 < length l)
-    (lead-ok : strayLetter (P .letters) lead ≡ false)
-    (l-ok : strayLetter (P .letters) l ≡ false)
+      (goodP goodS : List Taken → Bool)
+      (setP : (xs ys : List Taken) → SameSet xs ys → goodP xs ≡ goodP ys)
+      (setS : (xs ys : List Taken) → SameSet xs ys → goodS xs ≡ goodS ys)
+      (walks : (p : ℕ) (w : List ℕ) → p < P .states → 0 < length w → Path P p w p → goodP (passFrom P p w) ≡ goodS (passFrom S (f p) w))
+      (p : ℕ)
+      (lead l : List ℕ)
+      (b : p < P .states)
+      (some : 0 < length l)
+      (lead-ok : strayLetter (P .letters) lead ≡ false)
+      (l-ok : strayLetter (P .letters) l ≡ false)
     where
+      -- a run of P that never stops, and its projection: both recur on one closed walk
+      module _ (e : Endless P p lead l) (g : Endless S (f p) lead l) where
+        turns : (r : ℕ) → turn S l r (g .entry) ≡ f (turn P l r (e .entry))
+        turns r = sym (path-end S (endless-path S (f p) lead l g r)) ∙ path-end S (path-projects b (endless-path P p lead l e r))
 
-    -- a run of P that never stops, and its projection: both recur on one closed walk
-    module _ (e : Endless P p lead l) (g : Endless S (f p) lead l) where
-      turns : (r : ℕ) → turn S l r (g .entry) ≡ f (turn P l r (e .entry))
-      turns r = sym (path-end S (endless-path S (f p) lead l g r)) ∙ path-end S (path-projects b (endless-path P p lead l e r))
+        round : turn S l (e .on .period) (turn S l (e .on .begin) (g .entry)) ≡ turn S l (e .on .begin) (g .entry)
+        round =
+            let i = e .on .begin in
+            let d = e .on .period in
+            sym (iter-add (follow S l) d i (g .entry)) ∙ turns (d + i) ∙ ap f (iter-add (follow P l) d i (e .entry) ∙ e .on .round) ∙ sym (turns i)
 
-      round : turn S l (e .on .period) (turn S l (e .on .begin) (g .entry)) ≡ turn S l (e .on .begin) (g .entry)
-      round =
-          let i = e .on .begin in
-          let d = e .on .period in
-          sym (iter-add (follow S l) d i (g .entry)) ∙ turns (d + i) ∙ ap f (iter-add (follow P l) d i (e .entry) ∙ e .on .round) ∙ sym (turns i)
+        recurring-agree : goodP (recurring P p lead l) ≡ goodS (recurring S (f p) lead l)
+        recurring-agree =
+            let i = e .on .begin in
+            let d = e .on .period in
+            let x = turn P l i (e .entry) in
+            let closed : Path P x (repeated d l) x = rw (e .on .round) at (steady-later P l (e .on) i d) in
+            setP (recurring P p lead l) (passFrom P x (repeated d l)) (endless-window P p lead l e i d d (e .on .some) (omega arith) (e .on .round))
+            ∙ walks x (repeated d l) (path-below P b (endless-path P p lead l e i)) (repeated-some d l (e .on .some) some) closed
+            ∙ ap (λ (z : ℕ). goodS (passFrom S z (repeated d l))) (sym (turns i))
+            ∙ sym (setS (recurring S (f p) lead l) (passFrom S (turn S l i (g .entry)) (repeated d l)) (endless-window S (f p) lead l g i d d (e .on .some) (omega arith) round))
 
-      recurring-agree : goodP (recurring P p lead l) ≡ goodS (recurring S (f p) lead l)
-      recurring-agree =
-          let i = e .on .begin in
-          let d = e .on .period in
-          let x = turn P l i (e .entry) in
-          let closed : Path P x (repeated d l) x = rw (e .on .round) at (steady-later P l (e .on) i d) in
-          setP (recurring P p lead l) (passFrom P x (repeated d l)) (endless-window P p lead l e i d d (e .on .some) (omega arith) (e .on .round))
-          ∙ walks x (repeated d l) (path-below P b (endless-path P p lead l e i)) (repeated-some d l (e .on .some) some) closed
-          ∙ ap (λ (z : ℕ). goodS (passFrom S z (repeated d l))) (sym (turns i))
-          ∙ sym (setS (recurring S (f p) lead l) (passFrom S (turn S l i (g .entry)) (repeated d l)) (endless-window S (f p) lead l g i d d (e .on .some) (omega arith) round))
+      pub words-agree : judgedBy P p lead l goodP ≡ judgedBy S (f p) lead l goodS
+      unfolding stop-projects
+      words-agree = ⊎-elim endless stopped (run-view P p lead l b lead-ok l-ok)
+        where
+          lead-ok′ : strayLetter (S .letters) lead ≡ false
+          lead-ok′ = rw (sim .same-letters) at lead-ok
 
-    pub words-agree : judgedBy P p lead l goodP ≡ judgedBy S (f p) lead l goodS
-    unfolding stop-projects
-    words-agree = ⊎-elim endless stopped (run-view P p lead l b lead-ok l-ok)
-      where
-        lead-ok′ : strayLetter (S .letters) lead ≡ false
-        lead-ok′ = rw (sim .same-letters) at lead-ok
-        l-ok′ : strayLetter (S .letters) l ≡ false
-        l-ok′ = rw (sim .same-letters) at l-ok
-        endless : Endless P p lead l → judgedBy P p lead l goodP ≡ judgedBy S (f p) lead l goodS
-        endless e = ⊎-elim (λ g. judged-endless P p lead l goodP e ∙ ap (λ (z : Bool). pick z accepts rejects) (recurring-agree e g) ∙ sym (judged-endless S (f p) lead l goodS g)) (λ x. absurd (path-or-stop S (path-projects b (endless-path P p lead l e (S .states))) x)) (run-view S (f p) lead l (sim .state p b) lead-ok′ l-ok′)
-        stopped : Stop P p (lead ++ repeated (P .states) l) → judgedBy P p lead l goodP ≡ judgedBy S (f p) lead l goodS
-        stopped x =
-            let i = length (x .before) in
-            let met : MeetsMissing S (f p) lead l i = record { repetitions = P .states; stop = stop-projects b x; count = refl } in
-            let there = stops-view S (f p) lead l (sim .state p b) lead-ok′ l-ok′ i .1 met in
-            let here′ = stops-view P p lead l b lead-ok l-ok i .1 (record { repetitions = P .states; stop = x; count = refl }) in
-            judged-stopped P p lead l goodP (here′ .0) ∙ ap stops (here′ .1 ∙ sym (there .1)) ∙ sym (judged-stopped S (f p) lead l goodS (there .0))
+          l-ok′ : strayLetter (S .letters) l ≡ false
+          l-ok′ = rw (sim .same-letters) at l-ok
+
+          endless : Endless P p lead l → judgedBy P p lead l goodP ≡ judgedBy S (f p) lead l goodS
+          endless e = ⊎-elim (λ g. judged-endless P p lead l goodP e ∙ ap (λ (z : Bool). pick z accepts rejects) (recurring-agree e g) ∙ sym (judged-endless S (f p) lead l goodS g)) (λ x. absurd (path-or-stop S (path-projects b (endless-path P p lead l e (S .states))) x)) (run-view S (f p) lead l (sim .state p b) lead-ok′ l-ok′)
+
+          stopped : Stop P p (lead ++ repeated (P .states) l) → judgedBy P p lead l goodP ≡ judgedBy S (f p) lead l goodS
+          stopped x =
+              let i = length (x .before) in
+              let met : MeetsMissing S (f p) lead l i = record { repetitions = P .states; stop = stop-projects b x; count = refl } in
+              let there = stops-view S (f p) lead l (sim .state p b) lead-ok′ l-ok′ i .1 met in
+              let here′ = stops-view P p lead l b lead-ok l-ok i .1 (record { repetitions = P .states; stop = x; count = refl }) in
+              judged-stopped P p lead l goodP (here′ .0) ∙ ap stops (here′ .1 ∙ sym (there .1)) ∙ sym (judged-stopped S (f p) lead l goodS (there .0))

@@ -145,18 +145,18 @@ module _ (m : Marks) where
   scan-head : (x : ℕ) (o : List ℕ) (p best : ℕ) → best < 2 * p → m .prohibited x ≡ false → any (m .prohibited) o ≡ false → SeenFrom p (priorityFrom p m (x ∷ o) best) (m .required x)
   scan-head x o p best b n c =
       by
-        (m .required x)
-        (λ f. rw (n, f) (record { even-or-below = inl (⊎-elim (λ e. e) (λ e. rw e (even-double p)) (scan-clean o (suc p) (2 * p) c)); not-below = λ _. scan-keeps o (suc p) (2 * p) (omega arith) }))
-        (λ f. rw (n, f) (record { even-or-below = ⊎-elim inl (λ e. inr (omega arith)) (scan-clean o (suc p) best c); not-below = λ h. absurd (false≢true h) }))
+      (m .required x)
+      (λ f. rw (n, f) (record { even-or-below = inl (⊎-elim (λ e. e) (λ e. rw e (even-double p)) (scan-clean o (suc p) (2 * p) c)); not-below = λ _. scan-keeps o (suc p) (2 * p) (omega arith) }))
+      (λ f. rw (n, f) (record { even-or-below = ⊎-elim inl (λ e. inr (omega arith)) (scan-clean o (suc p) best c); not-below = λ h. absurd (false≢true h) }))
 
   -- x stands at position q, and neither it nor anything behind it is prohibited
   scan-at : (x : ℕ) (o : List ℕ) (p q best : ℕ) → best < 2 * p → isIn x o ≡ true → m .prohibited x ≡ false → any (m .prohibited) (after x o) ≡ false → q + suc (length (after x o)) ≡ p + length o → SeenFrom q (priorityFrom p m o best) (m .required x)
   scan-at x [] p q best b i n c e = absurd (false≢true i)
   scan-at x (y ∷ o) p q best b i n c e =
       by
-        (eqb x y)
-        (λ f. let g : q ≡ p = omega (arith, rw f at e) in rw (← eqb-true x y f, g) (scan-head x o p best b n (rw f at c)))
-        (λ f. scan-at x o (suc p) q (found p y best) (found-bounds p y best b .1) (rw f at i) n (rw f at c) (omega (arith, rw f at e)))
+      (eqb x y)
+      (λ f. let g : q ≡ p = omega (arith, rw f at e) in rw (← eqb-true x y f, g) (scan-head x o p best b n (rw f at c)))
+      (λ f. scan-at x o (suc p) q (found p y best) (found-bounds p y best b .1) (rw f at i) n (rw f at c) (omega (arith, rw f at e)))
 
 -- ---- moves
 module _ (arr : List ℕ → List ℕ) (law : Rearranges arr) where
@@ -181,12 +181,16 @@ module _ (arr : List ℕ → List ℕ) (law : Rearranges arr) where
       where
         past : length o < k → drop k (moved arr p o) ≡ drop k o
         past l = drop-of-length-le (moved arr p o) {i = k} (omega (arith, moved-length o)) ∙ sym (drop-of-length-le o {i = k} (omega arith))
+
         front : List ℕ
         front = arr (keep p o) ++ others p (take k o)
+
         tail-stays : others p o ≡ others p (take k o) ++ drop k o
         tail-stays = ap (others p) (sym (take-append-drop k o)) ∙ keep-append (λ i. not (p i)) (take k o) (drop k o) ∙ ap (λ (z : List ℕ). others p (take k o) ++ z) (others-all p (drop k o) h)
+
         front-length : k ≤ length o → length front ≡ k
         front-length l = simp length-append (omega (arith, law .same-length (keep p o), kept-length p o, simp (length-append, length-drop) at (ap length tail-stays)))
+
         within : k ≤ length o → drop k (moved arr p o) ≡ drop k o
         within l = ap (λ (z : List ℕ). drop k (arr (keep p o) ++ z)) tail-stays ∙ ap (drop k) (sym (append-assoc (arr (keep p o)) (others p (take k o)) (drop k o))) ∙ drop-at front (drop k o) k (front-length l)
 
@@ -204,9 +208,9 @@ module _ (arr : List ℕ → List ℕ) (law : Rearranges arr) where
       let c = scan-none-prohibited m o 1 k 1 (omega arith) (omega arith) in
       let d = drop-moved (m .prohibited) k o c in
       by
-        (eqb (priority m o) (2 * suc k))
-        (λ e. let r = any-find (m .required) (drop k o) (scan-some-required m o 1 k 1 (omega arith) (omega (arith, eqb-true (priority m o) (2 * suc k) e))) in (r .0, r .1, or-left (m .required (r .0)) (any (λ n. n .required (r .0)) ms) (r .2)))
-        (λ e. let r = tail-required ms (moved arr (m .prohibited) o) k (omega (arith, eqb-false (priority m o) (2 * suc k) e)) in (r .0, rw d at (r .1), or-right (m .required (r .0)) (any (λ n. n .required (r .0)) ms) (r .2)))
+      (eqb (priority m o) (2 * suc k))
+      (λ e. let r = any-find (m .required) (drop k o) (scan-some-required m o 1 k 1 (omega arith) (omega (arith, eqb-true (priority m o) (2 * suc k) e))) in (r .0, r .1, or-left (m .required (r .0)) (any (λ n. n .required (r .0)) ms) (r .2)))
+      (λ e. let r = tail-required ms (moved arr (m .prohibited) o) k (omega (arith, eqb-false (priority m o) (2 * suc k) e)) in (r .0, rw d at (r .1), or-right (m .required (r .0)) (any (λ n. n .required (r .0)) ms) (r .2)))
 
   even-satisfied : (m : Marks) (ms : List Marks) (o : List ℕ) → isEven (largestPriority arr (m ∷ ms) o) ≡ true → any (satisfied (m ∷ ms)) o ≡ true
   even-satisfied m ms o h =

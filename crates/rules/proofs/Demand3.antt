@@ -68,14 +68,14 @@ closed-path s (x ∷ xs) h =
     let y = s .go p (x .by) in
     let tail = ltb (x .by) (s .letters) && (ltb y (s .states) && goesFrom s y xs) in
     let b = and-parts (eqb p p) (ltb p (s .states) && tail) (g .0) in
-    record
-      { place = p
-      ; letters = r .0
-      ; is-state = ltb-true p (s .states) (and-parts (ltb p (s .states)) tail (b .1) .0)
-      ; some = omega (arith, ap length (r .1), pass-length s (r .0) p)
-      ; taken-by = r .1
-      ; path = subst (λ (z : ℕ). Path s p (r .0) z) (eqb-true (endOf s p (x ∷ xs)) p (g .1)) (r .2)
-      }
+    record {
+      place = p;
+      letters = r .0;
+      is-state = ltb-true p (s .states) (and-parts (ltb p (s .states)) tail (b .1) .0);
+      some = omega (arith, ap length (r .1), pass-length s (r .0) p);
+      taken-by = r .1;
+      path = subst (λ (z : ℕ). Path s p (r .0) z) (eqb-true (endOf s p (x ∷ xs)) p (g .1)) (r .2);
+    }
 
 -- ---- the rows
 module _ {M : Type 0} (s : System) (start : ℕ) (k : Keeper M) (good : List Taken → Bool) (Fits : ℕ → M → Type 0) (law : Lawful s k good Fits) (is-start : start < s .states) where
@@ -87,9 +87,9 @@ module _ {M : Type 0} (s : System) (start : ℕ) (k : Keeper M) (good : List Tak
       let h = step-present s k r a t in
       let q = r .source in
       by
-        (isInside s q a)
-        (λ i. rw (step-inside s k r a h i) (h, law .fits-move q a (r .memory) (f .0) l i (f .1)))
-        (λ i. rw (step-crossing s k r a h i) (h, law .fits-enter (s .go q a) h))
+      (isInside s q a)
+      (λ i. rw (step-inside s k r a h i) (h, law .fits-move q a (r .memory) (f .0) l i (f .1)))
+      (λ i. rw (step-crossing s k r a h i) (h, law .fits-enter (s .go q a) h))
 
   pub reached-fits : {r : Row M} → Reached (planOf s start k) r → RowFits r
   reached-fits first-row = (is-start, law .fits-enter start is-start)
@@ -161,12 +161,13 @@ module _ {M : Type 0} (s : System) (start : ℕ) (k : Keeper M) (good : List Tak
       where
         stray : ℕ → Bool
         stray x = not (ltb x (length rs) || eqb x noRow)
+
         taken-at : (i a : ℕ) → i < length rs → a < s .letters → stray (targetNumber g noRow rs (at i) a) ≡ false
         taken-at i a l la =
             by
-              (stepOf s k (at i) a .there)
-              (λ t. rw (t, lt-ltb (numberOf g (stepOf s k (at i) a .to) rs) (length rs) (rows-closed g same-equal same-refl c not-full i a l la t)))
-              (λ t. rw (t, or-right (ltb noRow (length rs)) true refl))
+            (stepOf s k (at i) a .there)
+            (λ t. rw (t, lt-ltb (numberOf g (stepOf s k (at i) a .to) rs) (length rs) (rows-closed g same-equal same-refl c not-full i a l la t)))
+            (λ t. rw (t, or-right (ltb noRow (length rs)) true refl))
 
     -- a target is a row exactly if the transition is there
     present : (i a : ℕ) → i < length rs → a < s .letters → P .go i a < length rs → s .go (source i) a < s .states
@@ -191,9 +192,10 @@ module _ {M : Type 0} (s : System) (start : ℕ) (k : Keeper M) (good : List Tak
         let stepped = step-inside s k (at i) a d inside in
         let next : at (P .go i a) ≡ row (s .go q a) (k .move q a (at i .memory)) = target-there i a l la d .1 ∙ ap (λ (x : Step (Row M)). x .to) stepped in
         let one : Path s q (a ∷ []) (s .go q a) = step la d here in
-        let rest = walk-carried t r (back .0 ++ (a ∷ []), rw e (path-append s (back .1) one)) in
-        ( rest .0 ∙ ap (λ (x : Row M). memoryAfter s k (x .source) (x .memory) w) next,
-          ap₂ max (priority-at i a l la ∙ ap (λ (x : Step (Row M)). x .prio) stepped) (rest .1 ∙ ap (λ (x : Row M). largestAlong s k (x .source) (x .memory) w) next) )
+        let rest = walk-carried t r (back .0 ++ (a ∷ []), rw e (path-append s (back .1) one)) in (
+          rest .0 ∙ ap (λ (x : Row M). memoryAfter s k (x .source) (x .memory) w) next,
+          ap₂ max (priority-at i a l la ∙ ap (λ (x : Step (Row M)). x .prio) stepped) (rest .1 ∙ ap (λ (x : Row M). largestAlong s k (x .source) (x .memory) w) next),
+        )
 
     pub paths-agree : (i : ℕ) (w : List ℕ) → i < length rs → 0 < length w → Path P i w i → parityGood (s .letters) ps (passFrom P i w) ≡ good (passFrom s (source i) w)
     paths-agree i [] l some p = absurd (omega arith)

@@ -76,17 +76,17 @@ taken-table bs h =
     let s4 = or-none (ltb maxLetters m) (ltb maxPairs (t .pairs)) (s3 .1) in
     let n0 = eqb-false n 0 (s1 .0) in
     let m0 = eqb-false m 0 (s3 .0) in
-    record
-      { some-states = omega arith
-      ; most-states = ltb-false maxStates n (s2 .0)
-      ; some-letters = omega arith
-      ; most-letters = ltb-false maxLetters m (s4 .0)
-      ; most-pairs = ltb-false maxPairs (t .pairs) (s4 .1)
-      ; exact = le-antisymm (ltb-false l (length bs) (d .0)) (ltb-false (length bs) l (c .0))
-      ; start-state = leb-false n (t .start) (e .0)
-      ; targets-taken = f .0
-      ; marks-taken = g
-      }
+    record {
+      some-states = omega arith;
+      most-states = ltb-false maxStates n (s2 .0);
+      some-letters = omega arith;
+      most-letters = ltb-false maxLetters m (s4 .0);
+      most-pairs = ltb-false maxPairs (t .pairs) (s4 .1);
+      exact = le-antisymm (ltb-false l (length bs) (d .0)) (ltb-false (length bs) l (c .0));
+      start-state = leb-false n (t .start) (e .0);
+      targets-taken = f .0;
+      marks-taken = g;
+    }
 
 -- ---- a word that is taken
 pub record TakenWord (m : ℕ) (lead l : List ℕ) : Type 0 where

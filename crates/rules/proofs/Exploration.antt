@@ -86,9 +86,9 @@ module _ {A : Type 0} (g : Plan A) (same-equal : (x y : A) → g .same x y ≡ t
     once-more : ((k : ℕ) → k < length rs → numberOf g (rowAt g rs k) rs ≡ k) → (k : ℕ) → k < length more → numberOf g (rowAt g more k) more ≡ k
     once-more h k l =
         by
-          (ltb k (length rs))
-          (λ e. let b = ltb-true k (length rs) e in rw (same-row k b) (same-number (rowAt g rs k) (omega (arith, h k b)) ∙ h k b))
-          (λ e. let z : k ≡ length rs = omega (arith, ltb-false k (length rs) e, more-length) in rw z (rw last-row last-number))
+        (ltb k (length rs))
+        (λ e. let b = ltb-true k (length rs) e in rw (same-row k b) (same-number (rowAt g rs k) (omega (arith, h k b)) ∙ h k b))
+        (λ e. let z : k ≡ length rs = omega (arith, ltb-false k (length rs) e, more-length) in rw z (rw last-row last-number))
 
     -- a transition of an old row to an old row
     old-step : (j b n : ℕ) → j < length rs → n ≤ length rs → (g .step (rowAt g rs j) b .there ≡ true → numberOf g (g .step (rowAt g rs j) b .to) rs < n) → g .step (rowAt g more j) b .there ≡ true → numberOf g (g .step (rowAt g more j) b .to) more < n
@@ -99,46 +99,48 @@ module _ {A : Type 0} (g : Plan A) (same-equal : (x y : A) → g .same x y ≡ t
     discovered-more : (k : ℕ) → k < length rs → Discovered g rs k → Discovered g more k
     discovered-more k l d =
         let o = same-row (d .by-row) (omega (arith, d .from-before)) in
-        record
-          { by-row = d .by-row
-          ; by-letter = d .by-letter
-          ; from-before = d .from-before
-          ; is-letter = d .is-letter
-          ; there = rw o (d .there)
-          ; found = rw (o, same-row k l) (d .found)
-          ; nothing-new = λ j b e lb t. old-step j b k (omega (arith, earlier-row e, d .from-before)) (omega arith) (d .nothing-new j b e lb) t
-          }
+        record {
+          by-row = d .by-row;
+          by-letter = d .by-letter;
+          from-before = d .from-before;
+          is-letter = d .is-letter;
+          there = rw o (d .there);
+          found = rw (o, same-row k l) (d .found);
+          nothing-new = λ j b e lb t. old-step j b k (omega (arith, earlier-row e, d .from-before)) (omega arith) (d .nothing-new j b e lb) t;
+        }
 
     discovered-last : {i a : ℕ} → Found i a rs → i < length rs → a < g .letters → g .step (rowAt g rs i) a .there ≡ true → g .step (rowAt g rs i) a .to ≡ x → Discovered g more (length rs)
     discovered-last {i} {a} f l la t to =
         let o = same-row i l in
-        record
-          { by-row = i
-          ; by-letter = a
-          ; from-before = l
-          ; is-letter = la
-          ; there = rw o t
-          ; found = rw (o, last-row) to
-          ; nothing-new = λ j b e lb t′. let lj : j < length rs = omega (arith, earlier-row e) in old-step j b (length rs) lj (omega arith) (f .closed j b e lb lj) t′
-          }
+        record {
+          by-row = i;
+          by-letter = a;
+          from-before = l;
+          is-letter = la;
+          there = rw o t;
+          found = rw (o, last-row) to;
+          nothing-new = λ j b e lb t′. let lj : j < length rs = omega (arith, earlier-row e) in old-step j b (length rs) lj (omega arith) (f .closed j b e lb lj) t′;
+        }
 
     found-more : {i a : ℕ} → Found i a rs → i < length rs → a < g .letters → g .step (rowAt g rs i) a .there ≡ true → g .step (rowAt g rs i) a .to ≡ x → Found i (suc a) more
     found-more {i} {a} f l la t to =
-        record
-          { some = omega (arith, more-length)
-          ; front = same-row 0 (f .some) ∙ f .front
-          ; once = once-more (f .once)
-          ; closed = λ j b h lb lj t′. earlier-next h (λ h′. let lj′ : j < length rs = omega (arith, earlier-row h′) in omega (arith, more-length, old-step j b (length rs) lj′ (omega arith) (f .closed j b h′ lb lj′) t′)) (λ p q. rw (p, q, same-row i l, to) (omega (arith, last-number, more-length)))
-          ; ordered = λ k pos lk. by (ltb k (length rs)) (λ e. let b = ltb-true k (length rs) e in discovered-more k b (f .ordered k pos b)) (λ e. let z : k ≡ length rs = omega (arith, ltb-false k (length rs) e, more-length) in rw z (discovered-last f l la t to))
-          }
+        record {
+          some = omega (arith, more-length);
+          front = same-row 0 (f .some) ∙ f .front;
+          once = once-more (f .once);
+          closed = λ j b h lb lj t′. earlier-next h (λ h′. let lj′ : j < length rs = omega (arith, earlier-row h′) in omega (arith, more-length, old-step j b (length rs) lj′ (omega arith) (f .closed j b h′ lb lj′) t′)) (λ p q. rw (p, q, same-row i l, to) (omega (arith, last-number, more-length)));
+          ordered = λ k pos lk. by (ltb k (length rs)) (λ e. let b = ltb-true k (length rs) e in discovered-more k b (f .ordered k pos b)) (λ e. let z : k ≡ length rs = omega (arith, ltb-false k (length rs) e, more-length) in rw z (discovered-last f l la t to));
+        }
 
   found-met : {i a : ℕ} {rs : List A} → Found i a rs → i < length rs → a < g .letters → Found i (suc a) (met g rs (rowAt g rs i) a)
   found-met {i} {a} {rs} f l la = by (g .step (rowAt g rs i) a .there && leb (length rs) (numberOf g (g .step (rowAt g rs i) a .to) rs)) added known
     where
       x : A
       x = g .step (rowAt g rs i) a .to
+
       added : g .step (rowAt g rs i) a .there && leb (length rs) (numberOf g x rs) ≡ true → Found i (suc a) (met g rs (rowAt g rs i) a)
       added e = let r = and-parts (g .step (rowAt g rs i) a .there) (leb (length rs) (numberOf g x rs)) e in rw e (found-more rs x (leb-true (length rs) (numberOf g x rs) (r .1)) f l la (r .0) refl)
+
       known : g .step (rowAt g rs i) a .there && leb (length rs) (numberOf g x rs) ≡ false → Found i (suc a) (met g rs (rowAt g rs i) a)
       known e = rw e (record { some = f .some; front = f .front; once = f .once; closed = λ j b h lb lj t. earlier-next h (λ h′. f .closed j b h′ lb lj t) (λ p q. rw (p, q) (now (rw (p, q) at t))); ordered = f .ordered })
         where
@@ -178,9 +180,9 @@ module _ {A : Type 0} (g : Plan A) (same-equal : (x y : A) → g .same x y ≡ t
   found-from zero c {i} {rs} f h = record { read = i; rows = f; ended = by (ltb c (length rs)) (λ e. inl (ltb-true c (length rs) e)) (λ e. inr (omega (arith, ltb-false c (length rs) e))) }
   found-from (suc n) c {i} {rs} f h =
       by
-        (ltb i (length rs) && leb (length rs) c)
-        (λ e. rw (from-on n i c rs e) (found-from n c (found-next (found-by (g .letters) (rowAt g rs i) f refl (ltb-true i (length rs) (and-parts (ltb i (length rs)) (leb (length rs) c) e .0)) (omega arith) .0)) (omega arith)))
-        (λ e. rw (from-end n i c rs e) (record { read = i; rows = f; ended = by (ltb i (length rs)) (λ p. inl (leb-false (length rs) c (rw p at e))) (λ p. inr (ltb-false i (length rs) p)) }))
+      (ltb i (length rs) && leb (length rs) c)
+      (λ e. rw (from-on n i c rs e) (found-from n c (found-next (found-by (g .letters) (rowAt g rs i) f refl (ltb-true i (length rs) (and-parts (ltb i (length rs)) (leb (length rs) c) e .0)) (omega arith) .0)) (omega arith)))
+      (λ e. rw (from-end n i c rs e) (record { read = i; rows = f; ended = by (ltb i (length rs)) (λ p. inl (leb-false (length rs) c (rw p at e))) (λ p. inr (ltb-false i (length rs) p)) }))
 
   first-found : Found 0 0 (g .first ∷ [])
   first-found = record { some = omega arith; front = refl; once = alone; closed = λ j b h lb lj t. absurd (⊎-elim (λ (l : j < 0). omega arith) (λ (p : (j ≡ 0) × (b < 0)). omega arith) h); ordered = λ k pos l. absurd (omega arith) }

@@ -70,9 +70,9 @@ module _ (t : Table) where
       counted e =
           kept-once (counts t q) i (tabulate (t .pairs) 1 (λ j. j)) e
           ∙ by
-            (leb 1 i)
-            (λ f. by (leb i (t .pairs)) (λ h. rw (e, f, h) (range-once (t .pairs) 1 i (leb-true 1 i f) (omega (arith, leb-true i (t .pairs) h)))) (λ h. rw (f, h) (range-above (t .pairs) 1 i (omega (arith, leb-false i (t .pairs) h)))))
-            (λ f. rw f (range-below (t .pairs) 1 i (leb-false 1 i f)))
+          (leb 1 i)
+          (λ f. by (leb i (t .pairs)) (λ h. rw (e, f, h) (range-once (t .pairs) 1 i (leb-true 1 i f) (omega (arith, leb-true i (t .pairs) h)))) (λ h. rw (f, h) (range-above (t .pairs) 1 i (omega (arith, leb-false i (t .pairs) h)))))
+          (λ f. rw f (range-below (t .pairs) 1 i (leb-false 1 i f)))
 
   pub ordering-together : (p q : ℕ) (o : List ℕ) → together s p q ≡ true → IsOrdering t p o → IsOrdering t q o
   ordering-together p q o h f i = f i ∙ ap (λ (b : Bool). pick (leb 1 i && (leb i (t .pairs) && b)) 1 0) (met-same s (λ x a. requires t x a i) p q h)
@@ -129,8 +129,10 @@ module _ (t : Table) where
     where
       ms : List Marks
       ms = marksAlong q (a ∷ w)
+
       xs : List Taken
       xs = passFrom s q (a ∷ w)
+
       of-record : any (satisfied ms) o ≡ true → satisfies t xs ≡ true
       of-record h =
           let r = any-find (satisfied ms) o h in
@@ -140,6 +142,7 @@ module _ (t : Table) where
           let pos = leb-true 1 i (c .0) in
           let e : suc (i - 1) ≡ i = omega arith in
           below-intro (t .pairs) (λ j. satisfiesPair t (suc j) xs) (i - 1) (omega (arith, leb-true i (t .pairs) (k .0))) (ap (λ (j : ℕ). satisfiesPair t j xs) e ∙ sym (satisfied-along (a ∷ w) q i) ∙ r .2)
+
       of-table : satisfies t xs ≡ true → any (satisfied ms) o ≡ true
       of-table h =
           let r = below-find (t .pairs) (λ j. satisfiesPair t (suc j) xs) h in
@@ -152,14 +155,14 @@ module _ (t : Table) where
 
   pub rabin-lawful : Lawful s (recordKeeper t) (satisfies t) (IsOrdering t)
   rabin-lawful =
-      record
-        { same-equal = same-order-equal
-        ; same-refl = same-order-refl
-        ; fits-enter = λ q l. rising-ordering q
-        ; fits-move = λ q a o l la i f. moved-ordering q a o i f
-        ; set-only = λ xs ys e. ap (anyBelow (t .pairs)) (fun-ext (λ i. pair-set-only (suc i) xs ys e))
-        ; loop = λ q o a w p f closed. ap isEven (largest-along (a ∷ w) q o) ∙ closed-walk asTheyStood stood-rearranges (marksOf t q a) (marksAlong (s .go q a) w) o (sym (memory-along (a ∷ w) q o) ∙ closed) ∙ some-satisfied q a w o p f
-        }
+      record {
+        same-equal = same-order-equal;
+        same-refl = same-order-refl;
+        fits-enter = λ q l. rising-ordering q;
+        fits-move = λ q a o l la i f. moved-ordering q a o i f;
+        set-only = λ xs ys e. ap (anyBelow (t .pairs)) (fun-ext (λ i. pair-set-only (suc i) xs ys e));
+        loop = λ q o a w p f closed. ap isEven (largest-along (a ∷ w) q o) ∙ closed-walk asTheyStood stood-rearranges (marksOf t q a) (marksAlong (s .go q a) w) o (sym (memory-along (a ∷ w) q o) ∙ closed) ∙ some-satisfied q a w o p f;
+      }
 
   -- every reachable record is an ordering
   pub reached-ordering : t .start < t .states → {r : Row (List ℕ)} → Reached (tablePlan t) r → IsOrdering t (r .source) (r .memory)

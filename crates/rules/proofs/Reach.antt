@@ -40,6 +40,7 @@ module _ (e : ℕ → ℕ → Bool) where
     where
       at-k : via e (suc k) p k ≡ true → via e (suc k) k q ≡ true → via e (suc k) p q ≡ true
       at-k g′ h′ = via-through k p q (via-split k p k g′ (λ a. a) (λ a b. a)) (via-split k k q h′ (λ a. a) (λ a b. b))
+
       below-k : ((y z : ℕ) → via e k y x ≡ true → via e k x z ≡ true → via e k y z ≡ true) → via e (suc k) p q ≡ true
       below-k join =
           via-split k p x g
@@ -143,8 +144,10 @@ module _ (s : System) where
     where
       byLetter : ℕ → ℕ → Bool
       byLetter p a = isInside s p a && b p a
+
       atState : ℕ → Bool
       atState p = together s q p && anyBelow (s .letters) (byLetter p)
+
       found : anyBelow (s .states) atState ≡ true → Met b q
       found h =
           let f = below-find (s .states) atState h in

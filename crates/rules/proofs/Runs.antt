@@ -88,9 +88,9 @@ module _ (s : System) where
       let r = or-none (leb (s .letters) a) (strayLetter (s .letters) w) h in
       let l = leb-false (s .letters) a (r .0) in
       by
-        (leb (s .states) (s .go p a))
-        (λ e. inr (record { before = []; next = a; later = w; place = p; piece = refl; path = here; letter = l; absent = leb-true (s .states) (s .go p a) e }))
-        (λ e. let t = leb-false (s .states) (s .go p a) e in ⊎-elim (λ g. inl (g .0, step l t (g .1))) (λ x. inr (record { before = a ∷ x .before; next = x .next; later = x .later; place = x .place; piece = ap (λ (z : List ℕ). a ∷ z) (x .piece); path = step l t (x .path); letter = x .letter; absent = x .absent })) (goes-view w (s .go p a) (r .1)))
+      (leb (s .states) (s .go p a))
+      (λ e. inr (record { before = []; next = a; later = w; place = p; piece = refl; path = here; letter = l; absent = leb-true (s .states) (s .go p a) e }))
+      (λ e. let t = leb-false (s .states) (s .go p a) e in ⊎-elim (λ g. inl (g .0, step l t (g .1))) (λ x. inr (record { before = a ∷ x .before; next = x .next; later = x .later; place = x .place; piece = ap (λ (z : List ℕ). a ∷ z) (x .piece); path = step l t (x .path); letter = x .letter; absent = x .absent })) (goes-view w (s .go p a) (r .1)))
 
   -- a word that is read to its end meets no missing transition
   pub path-or-stop : {p : ℕ} {w : List ℕ} {q : ℕ} → Path s p w q → Stop s p w → ⊥
@@ -134,6 +134,7 @@ module _ (s : System) where
       where
         round : turn (j - i) (turn i p) ≡ turn i p
         round = let e : j - i + i ≡ j = omega arith in sym (iter-add (follow l) (j - i) i p) ∙ ap (λ (z : ℕ). turn z p) e ∙ sym same
+
         late : (r : ℕ) → s .states ≤ r → Path s (turn r p) l (turn (suc r) p)
         late r h =
             let k = comes-from (follow l) (turn i p) (j - i) (omega arith) round (r - i) in
@@ -221,11 +222,13 @@ module _ (s : System) where
         where
           endless : Endless q lead l → ((settled s q lead l .stopped ≡ true) × (settled s q lead l .read ≡ i)) ↔ MeetsMissing s q lead l i
           endless e = (λ h. clash (h .0) (ap (λ (z : At). z .stopped) (endless-settled e)), λ m. absurd (endless-meets-none e i m))
+
           stopped : Stop s q (lead ++ repeated (s .states) l) → ((settled s q lead l .stopped ≡ true) × (settled s q lead l .read ≡ i)) ↔ MeetsMissing s q lead l i
           stopped x =
-              let at-x = goes-stop 0 x in
-              ( λ h. record { repetitions = s .states; stop = x; count = omega (arith, h .1, ap (λ (z : At). z .read) at-x) },
-                λ m. let at-m = stop-same (s .states) x m in (ap (λ (z : At). z .stopped) at-m, omega (arith, m .count, ap (λ (z : At). z .read) at-m)) )
+              let at-x = goes-stop 0 x in (
+                λ h. record { repetitions = s .states; stop = x; count = omega (arith, h .1, ap (λ (z : At). z .read) at-x) },
+                λ m. let at-m = stop-same (s .states) x m in (ap (λ (z : At). z .stopped) at-m, omega (arith, m .count, ap (λ (z : At). z .read) at-m)),
+              )
 
   -- ---- the transitions that recur
   -- the transitions of a path: each is what some letter takes, where the letters before it lead
@@ -246,6 +249,7 @@ module _ (s : System) where
           let i = eqb-true (x .from) p (f .0) in
           let j = eqb-true (x .by) a (f .1) in
           record { before = []; later = w; piece = rw j; path = rw i here; present = rw (i, j) t }
+
       behind : OnPath (s .go p a) w x → OnPath p (a ∷ w) x
       behind y = record { before = a ∷ y .before; later = y .later; piece = ap (λ (z : List ℕ). a ∷ z) (y .piece); path = step l t (y .path); present = y .present }
 
@@ -261,6 +265,7 @@ module _ (s : System) where
       where
         met : OnPath (turn l r (e .entry)) l x → TakenIn s q lead l r x
         met y = record { before = y .before; later = y .later; piece = y .piece; path = path-append s (e .path) (path-append s (steady-path l (e .on) r) (y .path)); present = y .present }
+
         shown : TakenIn s q lead l r x → takes l (isTaken x) (turn l r (e .entry)) ≡ true
         shown y =
             let a = path-split lead (y .path) in
@@ -274,9 +279,10 @@ module _ (s : System) where
 
     endless-recurs : (x : Taken) → (any (isTaken x) (recurring s q lead l) ≡ true) ↔ Recurs s q lead l x
     endless-recurs x =
-        let v = takes-recurring l (isTaken x) (e .on) in
-        ( λ h r. let k = v .1 (ap (any (isTaken x)) (sym endless-recurring) ∙ h) r in (k .0, k .1, taken-view (k .0) x .1 (k .2)),
-          λ h. ap (any (isTaken x)) endless-recurring ∙ v .0 (λ r. let k = h r in (k .0, k .1, taken-view (k .0) x .0 (k .2))) )
+        let v = takes-recurring l (isTaken x) (e .on) in (
+          λ h r. let k = v .1 (ap (any (isTaken x)) (sym endless-recurring) ∙ h) r in (k .0, k .1, taken-view (k .0) x .1 (k .2)),
+          λ h. ap (any (isTaken x)) endless-recurring ∙ v .0 (λ r. let k = h r in (k .0, k .1, taken-view (k .0) x .0 (k .2))),
+        )
 
     pub endless-window : (i d w : ℕ) → 0 < d → d ≤ w → turn l d (turn l i (e .entry)) ≡ turn l i (e .entry) → SameSet (recurring s q lead l) (passFrom s (turn l i (e .entry)) (repeated w l))
     endless-window i d w some wide round b = ap (any b) endless-recurring ∙ recurring-window l (e .on) i d w some wide round b

@@ -123,12 +123,12 @@ stepOf s k r a =
     let q = r .source in
     let x = s .go q a in
     pick
-      (leb (s .states) x)
-      (record { there = false; to = r; prio = missingPriority })
-      (pick
-        (isInside s q a)
-        (record { there = true; to = row x (k .move q a (r .memory)); prio = k .prio q a (r .memory) })
-        (record { there = true; to = row x (k .enter x); prio = crossingPriority }))
+    (leb (s .states) x)
+    (record { there = false; to = r; prio = missingPriority })
+    (pick
+    (isInside s q a)
+    (record { there = true; to = row x (k .move q a (r .memory)); prio = k .prio q a (r .memory) })
+    (record { there = true; to = row x (k .enter x); prio = crossingPriority }))
 
 abbrev pub sameRow : {M : Type 0} → Keeper M → Row M → Row M → Bool
 sameRow k r r′ = eqb (r .source) (r′ .source) && k .same (r .memory) (r′ .memory)
