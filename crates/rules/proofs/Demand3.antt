@@ -6,76 +6,35 @@
 --     target-at, priority-at, source-at     what the arrays hold for a row and a letter
 --     projects         the table of rows projects onto s
 --     walk-carried     along a closed walk the rows carry the keeper's memory and priorities
---     paths-agree, walks-agree, looped-words-agree     closed paths, closed walks and looped words agree
-use mathlib.Core.Path.{_≡_, refl, sym, ap, ap₂, _∙_, subst}
-use mathlib.Core.Bool.{Bool, true, false, not, _&&_, _||_}
-use mathlib.Core.List.{List, [], _∷_, _++_, map}
-use Prim.Native.Nat.{ℕ, zero, suc, _+_, _*_, _≤_, _<_, max}
+--     paths-agree, walks-agree, looped-words-agree, judges-agree     closed paths, closed walks, looped words and judges agree
+--     demand-3         all of it
+use mathlib.Core.Path.{_≡_, refl, sym, ap, ap₂, _∙_}
+use mathlib.Core.Bool.{Bool, true, false, not, _||_}
+use mathlib.Core.List.{List, [], _∷_, _++_}
+use Prim.Native.Nat.{ℕ, _*_, _≤_, _<_, max}
 use native.Mathlib.Nat.{zero-add}
 use native.Mathlib.Omega.{arith}
 use lib.Dec.{eqb, ltb, leb}
-use lib.ListN.{length, getD, take}
+use lib.ListN.{length, getD, take, length-append}
 use lib.Seq.{take-at}
-use borrow.Author.Tests.{eqb-true, eq-eqb, ltb-true, lt-ltb, leb-true, leb-false}
-use Rattle.rules.specs.Basics.{pick, SameSet, tabulate, joined, largest, isEven}
-use Rattle.rules.specs.Limits.{noRow}
+use borrow.Author.Tests.{eqb-false, lt-ltb, leb-true, leb-false}
+use Rattle.rules.specs.Basics.{tabulate, joined, largest, isEven}
+use Rattle.rules.specs.Limits.{maxLetters, maxRows, noRow}
 use Rattle.rules.specs.Systems.{System, isInside, Path, here, step}
-use Rattle.rules.specs.Runs.{Taken, taken, passFrom, strayLetter, goesFrom, endOf, isClosedWalk}
-use Rattle.rules.specs.Rows.{Step, Plan, Row, row, Keeper, stepOf, sameRow, planOf, numberOf, rowsOf, isFull, rowAt, Reached, first-row, next-row, targetNumber, allTargets, allPriorities, sources}
-use Rattle.rules.specs.Constructions.{memoryAfter, largestAlong, Lawful}
+use Rattle.rules.specs.Runs.{Taken, taken, passFrom, strayLetter, isClosedWalk, projected}
+use Rattle.rules.specs.Rows.{Step, Plan, SameIsEqual, Row, row, Keeper, stepOf, planOf, numberOf, rowsOf, isFull, rowAt, Reached, first-row, next-row, targetNumber, allTargets, allPriorities, sources}
 use Rattle.rules.specs.Tables.{cell, targetFault}
-use Rattle.rules.specs.Judges.{Answer, judgedBy, paritySystem, priorityAt, parityGood}
-use Rattle.rules.specs.Claims.{projected}
-use Rattle.rules.proofs.Bools.{by, clash, or-right, and-parts}
+use Rattle.rules.specs.Judges.{judgedBy, paritySystem, priorityAt, parityGood, parityFault, wordFault, unlessRefused, parityJudge}
+use Rattle.rules.specs.Constructions.{memoryAfter, largestAlong, Lawful, Agree}
+use Rattle.rules.proofs.Bools.{by, or-right}
 use Rattle.rules.proofs.Sets.{largest-same}
 use Rattle.rules.proofs.Reach.{path-append, Leads, inside-of-return}
+use Rattle.rules.proofs.Walks.{closed-path}
 use Rattle.rules.proofs.Agreement.{Projects, path-projects, words-agree}
 use Rattle.rules.proofs.Exploration.{rows-first, rows-some, rows-reached, rows-closed, rows-within, row-numbered}
 use Rattle.rules.proofs.Arrays.{tabulate-length, tabulate-at, tabulate-none, joined-length, joined-at, joined-none, mapped-at}
-use Rattle.rules.proofs.Steps.{step-missing, step-inside, step-crossing, step-there, step-source, step-present, same-row-equal, same-row-refl}
-
--- ---- a closed walk is what some letters take from the state that it leaves
-walk-path : (s : System) (xs : List Taken) (p : ℕ) → goesFrom s p xs ≡ true → (w : List ℕ) × (xs ≡ passFrom s p w) × Path s p w (endOf s p xs)
-walk-path s [] p h = ([], refl, here)
-walk-path s (x ∷ xs) p h =
-    let y = s .go (x .from) (x .by) in
-    let a = and-parts (eqb p (x .from)) (ltb (x .from) (s .states) && (ltb (x .by) (s .letters) && (ltb y (s .states) && goesFrom s y xs))) h in
-    let b = and-parts (ltb (x .from) (s .states)) (ltb (x .by) (s .letters) && (ltb y (s .states) && goesFrom s y xs)) (a .1) in
-    let c = and-parts (ltb (x .by) (s .letters)) (ltb y (s .states) && goesFrom s y xs) (b .1) in
-    let d = and-parts (ltb y (s .states)) (goesFrom s y xs) (c .1) in
-    let r = walk-path s xs y (d .1) in
-    let whole : Path s (x .from) (x .by ∷ r .0) (endOf s y xs) = step (ltb-true (x .by) (s .letters) (c .0)) (ltb-true y (s .states) (d .0)) (r .2) in
-    rw (eqb-true p (x .from) (a .0)) (x .by ∷ r .0, ap (λ (z : List Taken). x ∷ z) (r .1), whole)
-
-pass-length : (s : System) (w : List ℕ) (p : ℕ) → length (passFrom s p w) ≡ length w
-pass-length s [] p = refl
-pass-length s (a ∷ w) p = ap suc (pass-length s w (s .go p a))
-
-pub record ClosedPath (s : System) (xs : List Taken) : Type 0 where
-  pub place : ℕ
-  pub letters : List ℕ
-  pub is-state : place < s .states
-  pub some : 0 < length letters
-  pub taken-by : xs ≡ passFrom s place letters
-  pub path : Path s place letters place
-
-pub closed-path : (s : System) (xs : List Taken) → isClosedWalk s xs ≡ true → ClosedPath s xs
-closed-path s [] h = clash h refl
-closed-path s (x ∷ xs) h =
-    let p = x .from in
-    let g = and-parts (goesFrom s p (x ∷ xs)) (eqb (endOf s p (x ∷ xs)) p) h in
-    let r = walk-path s (x ∷ xs) p (g .0) in
-    let y = s .go p (x .by) in
-    let tail = ltb (x .by) (s .letters) && (ltb y (s .states) && goesFrom s y xs) in
-    let b = and-parts (eqb p p) (ltb p (s .states) && tail) (g .0) in
-    record {
-      place = p;
-      letters = r .0;
-      is-state = ltb-true p (s .states) (and-parts (ltb p (s .states)) tail (b .1) .0);
-      some = omega (arith, ap length (r .1), pass-length s (r .0) p);
-      taken-by = r .1;
-      path = subst (λ (z : ℕ). Path s p (r .0) z) (eqb-true (endOf s p (x ∷ xs)) p (g .1)) (r .2);
-    }
+use Rattle.rules.proofs.Steps.{step-missing, step-inside, step-crossing, step-there, step-source, step-present, plan-same}
+use Rattle.rules.proofs.Refusals.{TakenWord, taken-word, parity-none}
 
 -- ---- the rows
 module _ {M : Type 0} (s : System) (start : ℕ) (k : Keeper M) (good : List Taken → Bool) (Fits : ℕ → M → Type 0) (law : Lawful s k good Fits) (is-start : start < s .states) where
@@ -95,7 +54,7 @@ module _ {M : Type 0} (s : System) (start : ℕ) (k : Keeper M) (good : List Tak
   reached-fits first-row = (is-start, law .fits-enter start is-start)
   reached-fits (next-row {r = r} {a = a} h l t) = step-fits r a l (reached-fits h) t
 
-module _ {M : Type 0} (s : System) (start : ℕ) (k : Keeper M) (good : List Taken → Bool) (Fits : ℕ → M → Type 0) (law : Lawful s k good Fits) (is-start : start < s .states) (c : ℕ) (not-full : isFull (planOf s start k) c ≡ false) (narrow : c ≤ noRow) where
+module _ {M : Type 0} (s : System) (start : ℕ) (k : Keeper M) (good : List Taken → Bool) (Fits : ℕ → M → Type 0) (law : Lawful s k good Fits) (is-start : start < s .states) (c : ℕ) (not-full : isFull (planOf s start k) c ≡ false) (within : c ≤ maxRows) where
   abbrev g : Plan (Row M)
   g = planOf s start k
 
@@ -106,14 +65,18 @@ module _ {M : Type 0} (s : System) (start : ℕ) (k : Keeper M) (good : List Tak
   abbrev at : ℕ → Row M
   at i = rowAt g rs i
 
-  same-equal : (x y : Row M) → g .same x y ≡ true → x ≡ y
-  same-equal = same-row-equal k (law .same-equal)
-
-  same-refl : (x : Row M) → g .same x x ≡ true
-  same-refl = same-row-refl k (law .same-refl)
+  same : SameIsEqual g
+  same = plan-same s start k (law .same-equal) (law .same-refl)
 
   rows-fit : (i : ℕ) → i < length rs → (at i .source < s .states) × Fits (at i .source) (at i .memory)
-  rows-fit i l = reached-fits s start k good Fits law is-start (rows-reached g same-equal same-refl c i l)
+  rows-fit i l = reached-fits s start k good Fits law is-start (rows-reached g same c i l)
+
+  -- one list of a cell for each letter, for each row
+  rows-length : (h : Row M → ℕ → ℕ) → length (joined (λ r. tabulate (s .letters) 0 (h r)) rs) ≡ length rs * s .letters
+  rows-length h = joined-length (λ r. tabulate (s .letters) 0 (h r)) (s .letters) (λ r. tabulate-length (h r) (s .letters) 0) rs
+
+  cell-at : (h : Row M → ℕ → ℕ) (z : List ℕ) (i a d : ℕ) → i < length rs → a < s .letters → getD (joined (λ r. tabulate (s .letters) 0 (h r)) rs ++ z) (cell (s .letters) i a) d ≡ h (at i) a
+  cell-at h z i a d l la = joined-at (λ r. tabulate (s .letters) 0 (h r)) (s .letters) (λ r. tabulate-length (h r) (s .letters) 0) rs z i a d (g .first) l la ∙ tabulate-at (h (at i)) (s .letters) 0 a d la ∙ ap (h (at i)) (zero-add a)
 
   -- ---- the arrays, with whatever stands behind the rows
   module _ (za zb zd : List ℕ) where
@@ -133,10 +96,10 @@ module _ {M : Type 0} (s : System) (start : ℕ) (k : Keeper M) (good : List Tak
     source i = at i .source
 
     target-at : (i a : ℕ) → i < length rs → a < s .letters → P .go i a ≡ targetNumber g noRow rs (at i) a
-    target-at i a l la = joined-at (λ r. tabulate (s .letters) 0 (targetNumber g noRow rs r)) (s .letters) (λ r. tabulate-length (targetNumber g noRow rs r) (s .letters) 0) rs za i a noRow (g .first) l la ∙ tabulate-at (targetNumber g noRow rs (at i)) (s .letters) 0 a noRow la ∙ ap (targetNumber g noRow rs (at i)) (zero-add a)
+    target-at i a l la = cell-at (targetNumber g noRow rs) za i a noRow l la
 
     priority-at : (i a : ℕ) → i < length rs → a < s .letters → priorityAt (s .letters) ps (taken i a) ≡ stepOf s k (at i) a .prio
-    priority-at i a l la = joined-at (λ r. tabulate (s .letters) 0 (λ b. stepOf s k r b .prio)) (s .letters) (λ r. tabulate-length (λ b. stepOf s k r b .prio) (s .letters) 0) rs zb i a 0 (g .first) l la ∙ tabulate-at (λ b. stepOf s k (at i) b .prio) (s .letters) 0 a 0 la ∙ ap (λ (b : ℕ). stepOf s k (at i) b .prio) (zero-add a)
+    priority-at i a l la = cell-at (λ r b. stepOf s k r b .prio) zb i a 0 l la
 
     source-at : (i : ℕ) → i < length rs → getD ss i 0 ≡ source i
     source-at i l = mapped-at (λ r. r .source) rs zd i 0 (g .first) l
@@ -146,28 +109,15 @@ module _ {M : Type 0} (s : System) (start : ℕ) (k : Keeper M) (good : List Tak
     target-there : (i a : ℕ) → i < length rs → a < s .letters → s .go (source i) a < s .states → (P .go i a < length rs) × (at (P .go i a) ≡ stepOf s k (at i) a .to)
     target-there i a l la h =
         let t = step-there s k (at i) a h in
-        let n = rows-closed g same-equal same-refl c not-full i a l la t in
+        let n = rows-closed g same c not-full i a l la t in
         let e : P .go i a ≡ numberOf g (stepOf s k (at i) a .to) rs = target-at i a l la ∙ rw t in
-        rw e (n, row-numbered g same-equal same-refl c (stepOf s k (at i) a .to) n)
+        rw e (n, row-numbered g same c (stepOf s k (at i) a .to) n)
 
     target-missing : (i a : ℕ) → i < length rs → a < s .letters → s .states ≤ s .go (source i) a → P .go i a ≡ noRow
     target-missing i a l la h = target-at i a l la ∙ rw (step-missing s k (at i) a h)
 
     few : length rs ≤ noRow
-    few = omega (arith, rows-within g same-equal same-refl c not-full)
-
-    pub targets-taken : targetFault (length rs) noRow (take (length rs * s .letters) ts) ≡ false
-    targets-taken = rw (take-at (allTargets g noRow rs) za (length rs * s .letters) (joined-length (λ r. tabulate (s .letters) 0 (targetNumber g noRow rs r)) (s .letters) (λ r. tabulate-length (targetNumber g noRow rs r) (s .letters) 0) rs)) (joined-none stray (λ r. tabulate (s .letters) 0 (targetNumber g noRow rs r)) (g .first) rs (λ i l. tabulate-none stray (targetNumber g noRow rs (at i)) (s .letters) 0 (λ a low la. taken-at i a l (omega arith))))
-      where
-        stray : ℕ → Bool
-        stray x = not (ltb x (length rs) || eqb x noRow)
-
-        taken-at : (i a : ℕ) → i < length rs → a < s .letters → stray (targetNumber g noRow rs (at i) a) ≡ false
-        taken-at i a l la =
-            by
-            (stepOf s k (at i) a .there)
-            (λ t. rw (t, lt-ltb (numberOf g (stepOf s k (at i) a .to) rs) (length rs) (rows-closed g same-equal same-refl c not-full i a l la t)))
-            (λ t. rw (t, or-right (ltb noRow (length rs)) true refl))
+    few = omega (arith, rows-within g same c not-full)
 
     -- a target is a row exactly if the transition is there
     present : (i a : ℕ) → i < length rs → a < s .letters → P .go i a < length rs → s .go (source i) a < s .states
@@ -176,7 +126,7 @@ module _ {M : Type 0} (s : System) (start : ℕ) (k : Keeper M) (good : List Tak
     missing : (i a : ℕ) → i < length rs → a < s .letters → length rs ≤ P .go i a → s .states ≤ s .go (source i) a
     missing i a l la h = by (leb (s .states) (s .go (source i) a)) (λ e. leb-true (s .states) (s .go (source i) a) e) (λ e. absurd (omega (arith, target-there i a l la (leb-false (s .states) (s .go (source i) a) e) .0)))
 
-    pub projects : Projects P s source
+    projects : Projects P s source
     projects = record { same-letters = refl; state = λ i l. rows-fit i l .0; missing = missing; present = present; target = λ i a l la h. let d = present i a l la h in ap (λ (r : Row M). r .source) (target-there i a l la d .1) ∙ step-source s k (at i) a d }
 
     -- ---- closed walks
@@ -197,7 +147,7 @@ module _ {M : Type 0} (s : System) (start : ℕ) (k : Keeper M) (good : List Tak
           ap₂ max (priority-at i a l la ∙ ap (λ (x : Step (Row M)). x .prio) stepped) (rest .1 ∙ ap (λ (x : Row M). largestAlong s k (x .source) (x .memory) w) next),
         )
 
-    pub paths-agree : (i : ℕ) (w : List ℕ) → i < length rs → 0 < length w → Path P i w i → parityGood (s .letters) ps (passFrom P i w) ≡ good (passFrom s (source i) w)
+    paths-agree : (i : ℕ) (w : List ℕ) → i < length rs → 0 < length w → Path P i w i → parityGood (s .letters) ps (passFrom P i w) ≡ good (passFrom s (source i) w)
     paths-agree i [] l some p = absurd (omega arith)
     paths-agree i (a ∷ w) l some p =
         let carried = walk-carried l p ([], here) in
@@ -207,13 +157,43 @@ module _ {M : Type 0} (s : System) (start : ℕ) (k : Keeper M) (good : List Tak
     pass-projected l here = refl
     pass-projected {i} l (step {a = a} {w = w} la t r) = ap₂ (λ (q : ℕ) (z : List Taken). taken q a ∷ z) (source-at i l) (pass-projected t r ∙ ap (λ (q : ℕ). passFrom s q w) (projects .target i a l la t))
 
-    pub walks-agree : (xs : List Taken) → isClosedWalk P xs ≡ true → parityGood (s .letters) ps xs ≡ good (projected ss xs)
+    walks-agree : (xs : List Taken) → isClosedWalk P xs ≡ true → parityGood (s .letters) ps xs ≡ good (projected ss xs)
     walks-agree xs h =
         let z = closed-path P xs h in
         rw (z .taken-by) (paths-agree (z .place) (z .letters) (z .is-state) (z .some) (z .path) ∙ ap good (sym (pass-projected (z .is-state) (z .path))))
 
     -- ---- looped words
-    pub looped-words-agree : (lead l : List ℕ) → 0 < length l → strayLetter (s .letters) lead ≡ false → strayLetter (s .letters) l ≡ false → judgedBy P 0 lead l (parityGood (s .letters) ps) ≡ judgedBy s start lead l good
+    looped-words-agree : (lead l : List ℕ) → 0 < length l → strayLetter (s .letters) lead ≡ false → strayLetter (s .letters) l ≡ false → judgedBy P 0 lead l (parityGood (s .letters) ps) ≡ judgedBy s start lead l good
     looped-words-agree lead l some lead-ok l-ok =
-        words-agree P s source projects (parityGood (s .letters) ps) good (λ xs ys e. ap isEven (largest-same (priorityAt (s .letters) ps) xs ys e)) (law .set-only) paths-agree 0 lead l (rows-some g same-equal same-refl c) some lead-ok l-ok
-        ∙ ap (λ (r : Row M). judgedBy s (r .source) lead l good) (rows-first g same-equal same-refl c)
+        words-agree P s source projects (parityGood (s .letters) ps) good (λ xs ys e. ap isEven (largest-same (priorityAt (s .letters) ps) xs ys e)) (law .set-only) paths-agree 0 lead l (rows-some g same c) some lead-ok l-ok
+        ∙ ap (λ (r : Row M). judgedBy s (r .source) lead l good) (rows-first g same c)
+
+    -- ---- judges
+    targets-taken : targetFault (length rs) noRow (take (length rs * s .letters) ts) ≡ false
+    targets-taken = rw (take-at (allTargets g noRow rs) za (length rs * s .letters) (rows-length (targetNumber g noRow rs))) (joined-none stray (λ r. tabulate (s .letters) 0 (targetNumber g noRow rs r)) (g .first) rs (λ i l. tabulate-none stray (targetNumber g noRow rs (at i)) (s .letters) 0 (λ a low la. taken-at i a l (omega arith))))
+      where
+        stray : ℕ → Bool
+        stray x = not (ltb x (length rs) || eqb x noRow)
+
+        taken-at : (i a : ℕ) → i < length rs → a < s .letters → stray (targetNumber g noRow rs (at i) a) ≡ false
+        taken-at i a l la =
+            by
+            (stepOf s k (at i) a .there)
+            (λ t. rw (t, lt-ltb (numberOf g (stepOf s k (at i) a .to) rs) (length rs) (rows-closed g same c not-full i a l la t)))
+            (λ t. rw (t, or-right (ltb noRow (length rs)) true refl))
+
+    parity-taken : 1 ≤ s .letters → s .letters ≤ maxLetters → parityFault (length rs) (s .letters) ts ps ≡ 0
+    parity-taken some-letters most-letters =
+        parity-none (length rs) (s .letters) ts ps (rows-some g same c) (omega (arith, rows-within g same c not-full)) some-letters most-letters
+        (simp length-append (omega (arith, rows-length (targetNumber g noRow rs))))
+        (simp length-append (omega (arith, rows-length (λ r a. stepOf s k r a .prio))))
+        targets-taken
+
+    judges-agree : 1 ≤ s .letters → s .letters ≤ maxLetters → (lead l : List ℕ) → parityJudge (length rs) (s .letters) ts ps lead l ≡ unlessRefused (wordFault (s .letters) lead l) (judgedBy s start lead l good)
+    judges-agree some-letters most-letters lead l = rw (parity-taken some-letters most-letters) (by (leb 1 (wordFault (s .letters) lead l)) (λ e. rw e) (λ e. rw e (heard (taken-word (s .letters) lead l (omega (arith, leb-false 1 (wordFault (s .letters) lead l) e))))))
+      where
+        heard : TakenWord (s .letters) lead l → judgedBy P 0 lead l (parityGood (s .letters) ps) ≡ judgedBy s start lead l good
+        heard w = let e = eqb-false (length l) 0 (w .some-loop) in looped-words-agree lead l (omega arith) (w .lead-letters) (w .loop-letters)
+
+    pub demand-3 : 1 ≤ s .letters → s .letters ≤ maxLetters → Agree s start good (length rs) ts ps ss
+    demand-3 some-letters most-letters = record { words = looped-words-agree; judges = judges-agree some-letters most-letters; walks = walks-agree }

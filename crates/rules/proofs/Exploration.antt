@@ -18,7 +18,7 @@ use lib.ListN.{length, getD, length-append, List·getD-append}
 use lib.Seq.{getD-append-seam}
 use borrow.Author.Tests.{ltb-true, ltb-false, leb-true, leb-false, le-leb, lt-leb, lt-ltb, le-ltb}
 use Rattle.rules.specs.Basics.{pick}
-use Rattle.rules.specs.Rows.{Plan, placeOf, numberOf, met, foundBy, foundFrom, rowsOf, isFull, rowAt, Reached, first-row, next-row, Distinct, Earlier, Discovered}
+use Rattle.rules.specs.Rows.{Plan, SameIsEqual, placeOf, numberOf, met, foundBy, foundFrom, rowsOf, isFull, rowAt, Reached, first-row, next-row, Distinct, Earlier, Discovered}
 use Rattle.rules.proofs.Bools.{by, clash, and-both, and-parts}
 use Rattle.rules.proofs.Pigeonhole.{pigeonhole}
 
@@ -54,7 +54,7 @@ earlier-row e = ⊎-elim (λ l. omega arith) (λ p. omega arith) e
 earlier-next : {C : Type 0} {j b i a : ℕ} → Earlier j b i (suc a) → (Earlier j b i a → C) → (j ≡ i → b ≡ a → C) → C
 earlier-next {b = b} {a = a} e f g = ⊎-elim (λ l. f (inl l)) (λ p. by (ltb b a) (λ h. f (inr (p .0, ltb-true b a h))) (λ h. g (p .0) (omega (arith, ltb-false b a h, p .1)))) e
 
-module _ {A : Type 0} (g : Plan A) (same-equal : (x y : A) → g .same x y ≡ true → x ≡ y) (same-refl : (x : A) → g .same x x ≡ true) where
+module _ {A : Type 0} (g : Plan A) (law : SameIsEqual g) where
   -- the rows found when the rows below i have been read, and row i by the letters below a
   record Found (i a : ℕ) (rs : List A) : Type 0 where
     some : 0 < length rs
@@ -81,7 +81,7 @@ module _ {A : Type 0} (g : Plan A) (same-equal : (x y : A) → g .same x y ≡ t
     same-number r l = place-append (g .same r) rs (x ∷ []) l
 
     last-number : numberOf g x more ≡ length rs
-    last-number = place-added (g .same x) rs x absent (same-refl x)
+    last-number = place-added (g .same x) rs x absent (law .self x)
 
     once-more : ((k : ℕ) → k < length rs → numberOf g (rowAt g rs k) rs ≡ k) → (k : ℕ) → k < length more → numberOf g (rowAt g more k) more ≡ k
     once-more h k l =
@@ -188,7 +188,7 @@ module _ {A : Type 0} (g : Plan A) (same-equal : (x y : A) → g .same x y ≡ t
   first-found = record { some = omega arith; front = refl; once = alone; closed = λ j b h lb lj t. absurd (⊎-elim (λ (l : j < 0). omega arith) (λ (p : (j ≡ 0) × (b < 0)). omega arith) h); ordered = λ k pos l. absurd (omega arith) }
     where
       alone : (k : ℕ) → k < length (g .first ∷ []) → numberOf g (rowAt g (g .first ∷ []) k) (g .first ∷ []) ≡ k
-      alone zero l = place-hit (g .same (g .first)) (g .first) [] (same-refl (g .first))
+      alone zero l = place-hit (g .same (g .first)) (g .first) [] (law .self (g .first))
       alone (suc k) l = absurd (omega arith)
 
   explored : (c : ℕ) → Explored c (rowsOf g c)
@@ -230,7 +230,7 @@ module _ {A : Type 0} (g : Plan A) (same-equal : (x y : A) → g .same x y ≡ t
 
     -- a row is the one of its number
     pub row-numbered : (r : A) → numberOf g r rs < length rs → rowAt g rs (numberOf g r rs) ≡ r
-    row-numbered r l = sym (same-equal r (rowAt g rs (numberOf g r rs)) (place-found (g .same r) (g .first) rs l))
+    row-numbered r l = sym (law .equal r (rowAt g rs (numberOf g r rs)) (place-found (g .same r) (g .first) rs l))
 
     module _ (fits : isFull g c ≡ false) where
       pub rows-within : length rs ≤ c
@@ -240,7 +240,7 @@ module _ {A : Type 0} (g : Plan A) (same-equal : (x y : A) → g .same x y ≡ t
       rows-closed j b lj lb t = explored c .rows .closed j b (inl (⊎-elim (λ h. omega (arith, rows-within)) (λ h. omega arith) (explored c .ended))) lb lj t
 
       pub reached-row : {r : A} → Reached g r → numberOf g r rs < length rs
-      reached-row first-row = let h = place-least (g .same (g .first)) (g .first) rs 0 rows-some (rw rows-first (same-refl (g .first))) in omega (arith, rows-some)
+      reached-row first-row = let h = place-least (g .same (g .first)) (g .first) rs 0 rows-some (rw rows-first (law .self (g .first))) in omega (arith, rows-some)
       reached-row (next-row {r = x} {a = a} h l t) =
           let n = reached-row h in
           let e = row-numbered x n in

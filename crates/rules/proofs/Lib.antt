@@ -6,10 +6,12 @@ pub mod Appearance
 pub mod Pigeonhole
 pub mod Orbits
 pub mod Runs
+pub mod Walks
 pub mod Agreement
 pub mod Exploration
 pub mod Arrays
 pub mod Steps
+pub mod Refusals
 pub mod Demand3
 pub mod RabinTables
 pub mod Numbers

@@ -1,7 +1,7 @@
 -- What a row does by a letter, case by case, and when two rows are the same.
 --     step-missing, step-inside, step-crossing     the three cases, whole
 --     step-there, step-present, step-source        a step is there exactly if the transition is, and leads where it leads
---     same-row-equal, same-row-refl                where sameness of memories is equality, sameness of rows is
+--     plan-same                                    where sameness of memories is equality, sameness of rows is
 use mathlib.Core.Path.{_≡_, refl, ap, ap₂, _∙_}
 use mathlib.Core.Bool.{Bool, true, false, not}
 use Prim.Native.Nat.{ℕ, _≤_, _<_}
@@ -9,7 +9,7 @@ use lib.Dec.{eqb, leb}
 use borrow.Author.Tests.{eqb-true, eq-eqb, leb-true, leb-false, le-leb, lt-leb}
 use Rattle.rules.specs.Basics.{pick}
 use Rattle.rules.specs.Systems.{System, isInside}
-use Rattle.rules.specs.Rows.{Step, Row, row, Keeper, sameRow, stepOf, missingPriority, crossingPriority}
+use Rattle.rules.specs.Rows.{Step, Row, row, Keeper, SameIsEqual, planOf, stepOf, missingPriority, crossingPriority}
 use Rattle.rules.proofs.Bools.{by, clash, and-both, and-parts}
 
 module _ {M : Type 0} (s : System) (k : Keeper M) (r : Row M) (a : ℕ) where
@@ -34,9 +34,9 @@ module _ {M : Type 0} (s : System) (k : Keeper M) (r : Row M) (a : ℕ) where
   pub step-present : stepOf s k r a .there ≡ true → s .go (r .source) a < s .states
   step-present t = by (leb (s .states) (s .go (r .source) a)) (λ e. clash t (ap (λ (x : Step (Row M)). x .there) (step-missing (leb-true (s .states) (s .go (r .source) a) e)))) (λ e. leb-false (s .states) (s .go (r .source) a) e)
 
-module _ {M : Type 0} (k : Keeper M) where
-  pub same-row-equal : ((m m′ : M) → k .same m m′ ≡ true → m ≡ m′) → (x y : Row M) → sameRow k x y ≡ true → x ≡ y
-  same-row-equal equal x y h = let r = and-parts (eqb (x .source) (y .source)) (k .same (x .memory) (y .memory)) h in ap₂ row (eqb-true (x .source) (y .source) (r .0)) (equal (x .memory) (y .memory) (r .1))
-
-  pub same-row-refl : ((m : M) → k .same m m ≡ true) → (x : Row M) → sameRow k x x ≡ true
-  same-row-refl self x = and-both (eqb (x .source) (x .source)) (k .same (x .memory) (x .memory)) (eq-eqb (x .source) (x .source) refl) (self (x .memory))
+pub plan-same : {M : Type 0} (s : System) (start : ℕ) (k : Keeper M) → ((m m′ : M) → k .same m m′ ≡ true → m ≡ m′) → ((m : M) → k .same m m ≡ true) → SameIsEqual (planOf s start k)
+plan-same s start k equal self =
+    record {
+      equal = λ x y h. let r = and-parts (eqb (x .source) (y .source)) (k .same (x .memory) (y .memory)) h in ap₂ row (eqb-true (x .source) (y .source) (r .0)) (equal (x .memory) (y .memory) (r .1));
+      self = λ x. and-both (eqb (x .source) (x .source)) (k .same (x .memory) (x .memory)) (eq-eqb (x .source) (x .source) refl) (self (x .memory));
+    }

@@ -1,19 +1,18 @@
 -- Demand 3: no looped word and no closed walk parts the two tables.
 --     rows, targets, priorities     the translation of the table that the bytes say, within a capacity
 --     translated bs c               the table is taken, the capacity is in range, and the reachable rows do not exceed it
---     projected ss xs               a walk's projection: the source state in place of each row
 --     Agrees bs n ts ps ss          n rows with these targets, priorities and source states agree with the Rabin table: on words of
 --                                   any length, before the judges, refusals included, and on closed walks of any length
 --     Demands                       every table that is translated agrees with its translation, whatever stands behind the rows
 use mathlib.Core.Path.{_≡_}
 use mathlib.Core.Logic.{_↔_}
 use mathlib.Core.Bool.{Bool, true, false, _&&_, not}
-use mathlib.Core.List.{List, [], _++_, map}
+use mathlib.Core.List.{List, _++_}
 use Prim.Native.Nat.{ℕ}
 use lib.Dec.{eqb, leb}
-use lib.ListN.{length, getD}
+use lib.ListN.{length}
 use Rattle.rules.specs.Limits.{maxRows, noRow}
-use Rattle.rules.specs.Runs.{Taken, taken, strayLetter, isClosedWalk}
+use Rattle.rules.specs.Runs.{Taken, strayLetter, isClosedWalk, projected}
 use Rattle.rules.specs.Rows.{Row, rowsOf, isFull, allTargets, allPriorities, sources}
 use Rattle.rules.specs.Tables.{tableOf, tableFault, tablePlan}
 use Rattle.rules.specs.Judges.{satisfies, paritySystem, parityGood, rabinRun, parityRun, rabinJudge, parityJudge}
@@ -29,9 +28,6 @@ targets bs c = allTargets (tablePlan (tableOf bs)) noRow (rows bs c)
 
 abbrev pub priorities : List ℕ → ℕ → List ℕ
 priorities bs c = allPriorities (tablePlan (tableOf bs)) (rows bs c)
-
-abbrev pub projected : List ℕ → List Taken → List Taken
-projected ss xs = map (λ x. taken (getD ss (x .from) 0) (x .by)) xs
 
 pub record Agrees (bs : List ℕ) (n : ℕ) (ts ps ss : List ℕ) : Type 0 where
   pub words : (lead l : List ℕ) → eqb (length l) 0 ≡ false → strayLetter (tableOf bs .letters) lead ≡ false → strayLetter (tableOf bs .letters) l ≡ false → parityRun n (tableOf bs .letters) ts ps lead l ≡ rabinRun (tableOf bs) lead l

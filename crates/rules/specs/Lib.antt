@@ -6,9 +6,9 @@ pub mod Systems
 pub mod Runs
 pub mod Rows
 pub mod Records
-pub mod Constructions
 pub mod Tables
 pub mod Judges
+pub mod Constructions
 pub mod Claims
 pub mod Says
 pub mod Cards

@@ -1,6 +1,7 @@
 -- Rows and their discovery, and the arrays of a table of rows; over any kind of row.
 --     Step                     what a row does by a letter: whether the transition is there, the row it leads to, its priority
 --     Plan                     what is explored: the letters, the first row, the step, and when two rows are the same
+--     SameIsEqual g            sameness of rows is equality
 --     numberOf g r rs          the number of the first row of rs that is the same as r, past the end for absent
 --     met g rs r a             rs after the row r is read by the letter a: its target added at the end, if it is there and absent
 --     foundBy f a g r rs       rs after r is read by the letters a, a + 1 .., f of them
@@ -37,6 +38,10 @@ pub record Plan (A : Type 0) : Type 0 where
   pub first : A
   pub step : A → ℕ → Step A
   pub same : A → A → Bool
+
+pub record SameIsEqual {A : Type 0} (g : Plan A) : Type 0 where
+  pub equal : (x y : A) → g .same x y ≡ true → x ≡ y
+  pub self : (x : A) → g .same x x ≡ true
 
 abbrev pub placeOf : {A : Type 0} → (A → Bool) → List A → ℕ
 placeOf b [] = 0

@@ -16,12 +16,13 @@
 --     goesFrom s p xs            xs is a walk from p: transitions that are there, each leaving the state to which the one before leads
 --     endOf s p xs               the state to which the walk leads
 --     isClosedWalk s xs          xs is a walk, is not empty and leads back to the state that it leaves
+--     projected ss xs            a walk's projection: for each row its source state, which ss gives
 use mathlib.Core.Path.{_≡_}
 use mathlib.Core.Bool.{Bool, true, false, _&&_, _||_}
-use mathlib.Core.List.{List, [], _∷_, _++_}
+use mathlib.Core.List.{List, [], _∷_, _++_, map}
 use Prim.Native.Nat.{ℕ, suc, _≤_, _<_}
 use lib.Dec.{eqb, ltb, leb}
-use lib.ListN.{length}
+use lib.ListN.{length, getD}
 use Rattle.rules.specs.Basics.{pick, any, repeated}
 use Rattle.rules.specs.Systems.{System, Path}
 
@@ -101,3 +102,6 @@ endOf s p (x ∷ xs) = endOf s (s .go (x .from) (x .by)) xs
 abbrev pub isClosedWalk : System → List Taken → Bool
 isClosedWalk s [] = false
 isClosedWalk s (x ∷ xs) = goesFrom s (x .from) (x ∷ xs) && eqb (endOf s (x .from) (x ∷ xs)) (x .from)
+
+abbrev pub projected : List ℕ → List Taken → List Taken
+projected ss xs = map (λ x. taken (getD ss (x .from) 0) (x .by)) xs

@@ -2,7 +2,7 @@
 --     Table                    sizes, start, targets by cell, marks two by two: the prohibited byte, then the required byte
 --     cell m q a               the number of the cell of state q and letter a
 --     tableOf bs               the table that the bytes say
---     targetOf t q a           where q goes by a, noState if the transition is missing
+--     targetOf t q a           where q goes by a; no state where the transition is missing, nor past the last cell
 --     prohibits, requires      the transition of q by a has pair i's prohibited (required) bit: it is in the pair's Fin (Inf) set
 --     tableFault bs            the refusal of the bytes, 1 to 6 in document 01's order, 0 if the table is taken
 --     systemOf t               the table's transition system
@@ -42,7 +42,7 @@ tableOf bs =
     record { states = n; letters = m; pairs = getD bs 2 0; start = getD bs 3 0; targets = take (n * m) (drop headerSize bs); marks = take (2 * (n * m)) (drop (headerSize + n * m) bs) }
 
 abbrev pub targetOf : Table → ℕ → ℕ → ℕ
-targetOf t q a = getD (t .targets) (cell (t .letters) q a) noState
+targetOf t q a = getD (t .targets) (cell (t .letters) q a) (t .states)
 
 abbrev pub prohibits : Table → ℕ → ℕ → ℕ → Bool
 prohibits t q a i = bit (i - 1) (getD (t .marks) (2 * cell (t .letters) q a) 0)

@@ -1,0 +1,102 @@
+-- What follows where nothing is refused.
+--     first-none, first-zero, when-none     a chain of refusals that gives none
+--     taken-table      what holds of a table that is taken
+--     taken-word       what holds of a word that is taken
+--     parity-none      a parity table with nothing to refuse
+use mathlib.Core.Path.{_≡_, refl}
+use mathlib.Core.Bool.{Bool, true, false, _||_}
+use mathlib.Core.List.{List}
+use Prim.Native.Nat.{ℕ, zero, suc, _*_, _≤_, _<_}
+use native.Mathlib.Nat.{le-antisymm}
+use native.Mathlib.Omega.{arith}
+use lib.Dec.{eqb, ltb, leb}
+use lib.ListN.{length, take}
+use borrow.Author.Tests.{eqb-false, ne-eqb, ltb-false, le-ltb, leb-false}
+use Rattle.rules.specs.Basics.{firstOf, when}
+use Rattle.rules.specs.Limits.{maxStates, maxLetters, maxPairs, maxRows, maxPiece, noState, noRow}
+use Rattle.rules.specs.Refusals as Refusal
+use Rattle.rules.specs.Runs.{strayLetter}
+use Rattle.rules.specs.Tables.{tableOf, tableFault, sizesFault, tableLength, targetFault, marksFault}
+use Rattle.rules.specs.Judges.{wordFault, parityFault}
+use Rattle.rules.proofs.Bools.{or-none}
+
+-- ---- chains of refusals
+-- no refusal: this one is not met, nor any behind it
+pub first-none : (b : Bool) (n r : ℕ) → firstOf (when b (suc n)) r ≡ 0 → (b ≡ false) × (r ≡ 0)
+first-none true n r h = absurd (omega arith)
+first-none false n r h = (refl, h)
+
+pub when-none : (b : Bool) (n : ℕ) → when b (suc n) ≡ 0 → b ≡ false
+when-none true n h = absurd (omega arith)
+when-none false n h = refl
+
+pub first-zero : (x r : ℕ) → firstOf x r ≡ 0 → (x ≡ 0) × (r ≡ 0)
+first-zero zero r h = (refl, h)
+first-zero (suc x) r h = absurd (omega arith)
+
+-- ---- a table that is taken
+pub record TakenTable (bs : List ℕ) : Type 0 where
+  pub some-states : 1 ≤ tableOf bs .states
+  pub most-states : tableOf bs .states ≤ maxStates
+  pub some-letters : 1 ≤ tableOf bs .letters
+  pub most-letters : tableOf bs .letters ≤ maxLetters
+  pub most-pairs : tableOf bs .pairs ≤ maxPairs
+  pub exact : length bs ≡ tableLength (tableOf bs .states) (tableOf bs .letters)
+  pub start-state : tableOf bs .start < tableOf bs .states
+  pub targets-taken : targetFault (tableOf bs .states) noState (tableOf bs .targets) ≡ false
+  pub marks-taken : marksFault (tableOf bs .pairs) (tableOf bs .targets) (tableOf bs .marks) ≡ false
+
+pub taken-table : (bs : List ℕ) → tableFault bs ≡ 0 → TakenTable bs
+unfolding tableFault
+taken-table bs h =
+    let t = tableOf bs in
+    let n = t .states in
+    let m = t .letters in
+    let l = tableLength n m in
+    let marks = when (marksFault (t .pairs) (t .targets) (t .marks)) Refusal.marks in
+    let targets = firstOf (when (targetFault n noState (t .targets)) Refusal.target) marks in
+    let start = firstOf (when (leb n (t .start)) Refusal.start) targets in
+    let long = firstOf (when (ltb l (length bs)) Refusal.long) start in
+    let short = firstOf (when (ltb (length bs) l) Refusal.short) long in
+    let sizes = firstOf (when (sizesFault n m (t .pairs)) Refusal.sizes) short in
+    let a = first-none (ltb (length bs) 4) 0 sizes h in
+    let b = first-none (sizesFault n m (t .pairs)) 1 short (a .1) in
+    let c = first-none (ltb (length bs) l) 0 long (b .1) in
+    let d = first-none (ltb l (length bs)) 2 start (c .1) in
+    let e = first-none (leb n (t .start)) 3 targets (d .1) in
+    let f = first-none (targetFault n noState (t .targets)) 4 marks (e .1) in
+    let g = when-none (marksFault (t .pairs) (t .targets) (t .marks)) 5 (f .1) in
+    let s1 = or-none (eqb n 0) (ltb maxStates n || (eqb m 0 || (ltb maxLetters m || ltb maxPairs (t .pairs)))) (b .0) in
+    let s2 = or-none (ltb maxStates n) (eqb m 0 || (ltb maxLetters m || ltb maxPairs (t .pairs))) (s1 .1) in
+    let s3 = or-none (eqb m 0) (ltb maxLetters m || ltb maxPairs (t .pairs)) (s2 .1) in
+    let s4 = or-none (ltb maxLetters m) (ltb maxPairs (t .pairs)) (s3 .1) in
+    let n0 = eqb-false n 0 (s1 .0) in
+    let m0 = eqb-false m 0 (s3 .0) in
+    record {
+      some-states = omega arith;
+      most-states = ltb-false maxStates n (s2 .0);
+      some-letters = omega arith;
+      most-letters = ltb-false maxLetters m (s4 .0);
+      most-pairs = ltb-false maxPairs (t .pairs) (s4 .1);
+      exact = le-antisymm (ltb-false l (length bs) (d .0)) (ltb-false (length bs) l (c .0));
+      start-state = leb-false n (t .start) (e .0);
+      targets-taken = f .0;
+      marks-taken = g;
+    }
+
+-- ---- a word that is taken
+pub record TakenWord (m : ℕ) (lead l : List ℕ) : Type 0 where
+  pub some-loop : eqb (length l) 0 ≡ false
+  pub lead-letters : strayLetter m lead ≡ false
+  pub loop-letters : strayLetter m l ≡ false
+
+pub taken-word : (m : ℕ) (lead l : List ℕ) → wordFault m lead l ≡ 0 → TakenWord m lead l
+taken-word m lead l h =
+    let a = first-none (eqb (length l) 0 || (ltb maxPiece (length lead) || ltb maxPiece (length l))) 9 (when (strayLetter m lead || strayLetter m l) Refusal.letter) h in
+    let b = or-none (eqb (length l) 0) (ltb maxPiece (length lead) || ltb maxPiece (length l)) (a .0) in
+    let c = or-none (strayLetter m lead) (strayLetter m l) (when-none (strayLetter m lead || strayLetter m l) 8 (a .1)) in
+    record { some-loop = b .0; lead-letters = c .0; loop-letters = c .1 }
+
+-- ---- a parity table that is taken
+pub parity-none : (n m : ℕ) (ts ps : List ℕ) → 1 ≤ n → n ≤ maxRows → 1 ≤ m → m ≤ maxLetters → n * m ≤ length ts → n * m ≤ length ps → targetFault n noRow (take (n * m) ts) ≡ false → parityFault n m ts ps ≡ 0
+parity-none n m ts ps n1 nm m1 mm lt lp h = rw (ne-eqb n 0 (λ e. omega arith), le-ltb maxRows n nm, ne-eqb m 0 (λ e. omega arith), le-ltb maxLetters m mm, le-ltb (length ts) (n * m) lt, le-ltb (length ps) (n * m) lp, h)
