@@ -3,17 +3,17 @@
 --     path-projects, stop-projects     paths and stops of P project to those of S
 --     words-agree          if two conditions agree on every closed walk and its projection, and look at the set of transitions alone,
 --                          then the two judgements of every looped word are the same, the count of a stop included
-use mathlib.Core.Path.{_≡_, refl, sym, ap, ap₂, _∙_}
-use mathlib.Core.Logic.{_⊎_, inl, inr, ⊎-elim}
+use mathlib.Core.Path.{_≡_, refl, sym, ap, _∙_}
+use mathlib.Core.Logic.{⊎-elim}
 use mathlib.Core.Bool.{Bool, true, false}
-use mathlib.Core.List.{List, [], _∷_, _++_}
+use mathlib.Core.List.{List, _++_}
 use Prim.Native.Nat.{ℕ, zero, suc, _+_, _≤_, _<_}
 use native.Mathlib.Omega.{arith}
 use lib.ListN.{length, length-append}
 use Rattle.rules.specs.Basics.{pick, SameSet, repeated}
 use Rattle.rules.specs.Systems.{System, Path, here, step}
-use Rattle.rules.specs.Runs.{At, standing, Taken, passFrom, strayLetter, settled, recurring, Stop, MeetsMissing}
-use Rattle.rules.specs.Judges.{Answer, accepts, rejects, stops, judgedBy}
+use Rattle.rules.specs.Runs.{At, Taken, passFrom, strayLetter, settled, recurring, Stop, MeetsMissing}
+use Rattle.rules.specs.Judges.{accepts, rejects, stops, judgedBy}
 use Rattle.rules.proofs.Orbits.{iter-add}
 use Rattle.rules.proofs.Runs.{path-end, path-below, path-or-stop, turn, follow, steady-later, Endless, endless-path, endless-settled, endless-window, run-view, stops-view}
 

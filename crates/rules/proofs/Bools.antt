@@ -5,7 +5,7 @@
 --     and-both, and-parts     a conjunction made and taken apart
 --     bool-ext           two tests that imply one another are equal
 use mathlib.Core.Path.{_≡_, refl, sym, _∙_}
-use mathlib.Core.Bool.{Bool, true, false, _&&_, _||_, not, true≢false}
+use mathlib.Core.Bool.{Bool, true, false, _&&_, _||_, true≢false}
 
 pub by : {C : Type 0} (b : Bool) → (b ≡ true → C) → (b ≡ false → C) → C
 by true f g = f refl

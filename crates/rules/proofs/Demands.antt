@@ -1,8 +1,8 @@
 -- Demand 3 for the tables of document 01, and for the arrays that the translator leaves.
 --     demands          every table that is translated agrees with its translation, whatever stands behind the rows
 --     says-agrees      a translator that keeps its promise leaves arrays that agree with the table
-use mathlib.Core.Path.{_≡_, refl, sym, ap, _∙_}
-use mathlib.Core.Bool.{Bool, true, false, not, _&&_, _||_}
+use mathlib.Core.Path.{_≡_, sym, _∙_}
+use mathlib.Core.Bool.{false, not, _&&_, _||_}
 use mathlib.Core.List.{List, _++_, append-assoc}
 use Prim.Native.Nat.{ℕ, _-_, _*_, _≤_}
 use native.Mathlib.Omega.{arith}
@@ -15,7 +15,7 @@ use Rattle.rules.specs.Refusals as Refusal
 use Rattle.rules.specs.Rows.{isFull, sources}
 use Rattle.rules.specs.Tables.{tableOf, tableFault, systemOf, tablePlan, recordKeeper, IsOrdering}
 use Rattle.rules.specs.Judges.{satisfies}
-use Rattle.rules.specs.Claims.{translated, rows, targets, priorities, Agrees, Demands}
+use Rattle.rules.specs.Claims.{rows, targets, priorities, Agrees, Demands}
 use Rattle.rules.specs.Says.{afterwards, arraysFault, translateFault, TranslateSays, TranslationAgrees}
 use Rattle.rules.proofs.Bools.{or-none, and-parts}
 use Rattle.rules.proofs.Refusals.{first-none, first-zero, when-none, taken-table}

@@ -8,16 +8,14 @@
 --     full-view            full exactly if more than c rows are reachable
 use mathlib.Core.Path.{_≡_, refl, sym, ap, _∙_, subst}
 use mathlib.Core.Logic.{_↔_, _⊎_, inl, inr, ⊎-elim}
-use mathlib.Core.Bool.{Bool, true, false, _&&_, not}
+use mathlib.Core.Bool.{Bool, true, false, _&&_}
 use mathlib.Core.List.{List, [], _∷_, _++_}
 use Prim.Native.Nat.{ℕ, zero, suc, _+_, _≤_, _<_}
-use native.Mathlib.Nat.{le-antisymm}
 use native.Mathlib.Omega.{arith}
 use lib.Dec.{ltb, leb}
 use lib.ListN.{length, getD, length-append, List·getD-append}
 use lib.Seq.{getD-append-seam}
-use borrow.Author.Tests.{ltb-true, ltb-false, leb-true, leb-false, le-leb, lt-leb, lt-ltb, le-ltb}
-use Rattle.rules.specs.Basics.{pick}
+use borrow.Author.Tests.{ltb-true, ltb-false, leb-true, leb-false}
 use Rattle.rules.specs.Rows.{Plan, SameIsEqual, placeOf, numberOf, met, foundBy, foundFrom, rowsOf, isFull, rowAt, Reached, first-row, next-row, Distinct, Earlier, Discovered}
 use Rattle.rules.proofs.Bools.{by, clash, and-both, and-parts}
 use Rattle.rules.proofs.Pigeonhole.{pigeonhole}

@@ -5,10 +5,10 @@
 use mathlib.Core.Path.{_≡_, refl, sym, ap, ap₂, _∙_}
 use mathlib.Core.Bool.{Bool, true, false, not, _&&_}
 use mathlib.Core.List.{List, [], _∷_, reverse, reverseAux, reverse-reverse}
-use Prim.Native.Nat.{ℕ, _+_, _*_, _%_, _≤_, _<_}
+use Prim.Native.Nat.{ℕ, _+_, _*_, _%_, _≤_}
 use native.Mathlib.Omega.{arith}
 use lib.Dec.{leb}
-use borrow.Author.Tests.{leb-true, leb-false, le-leb, not-false, not-true}
+use borrow.Author.Tests.{leb-true, le-leb, not-false, not-true}
 use Rattle.rules.specs.Basics.{any, isIn}
 use Rattle.rules.specs.Records.{decimalFrom, decimal}
 use Rattle.rules.specs.Tables.{Table, counts, IsOrdering}

@@ -7,24 +7,23 @@
 --     table-same           sameness of a table's rows is equality
 --     rabin-lawful         all that a construction must show
 use mathlib.Core.Path.{_≡_, refl, sym, ap, ap₂, _∙_, fun-ext}
-use mathlib.Core.Bool.{Bool, true, false, not, _&&_, _||_, false≢true, and-false}
+use mathlib.Core.Bool.{Bool, true, not, _&&_, false≢true, and-false}
 use mathlib.Core.List.{List, [], _∷_, _++_, map}
 use Prim.Native.Nat.{ℕ, zero, suc, _+_, _-_, _≤_, _<_, max}
 use native.Mathlib.Omega.{arith}
-use lib.Dec.{eqb, ltb, leb}
-use lib.ListN.{length}
+use lib.Dec.{eqb, leb}
 use borrow.Author.Tests.{eqb-true, eqb-false, eq-eqb, ne-eqb, leb-true, leb-false, le-leb}
 use Rattle.rules.specs.Basics.{pick, any, SameSet, anyBelow, isIn, occurs, keep, tabulate, isEven}
-use Rattle.rules.specs.Systems.{System, together, isInside, metWithin, Path, here, step}
-use Rattle.rules.specs.Runs.{Taken, taken, passFrom}
+use Rattle.rules.specs.Systems.{System, together, isInside, Path, here, step}
+use Rattle.rules.specs.Runs.{Taken, passFrom}
 use Rattle.rules.specs.Records.{Marks, Rearranges, asTheyStood, moved, priority, movedAlong, largestPriority, satisfied, sameOrder}
 use Rattle.rules.specs.Rows.{Row, SameIsEqual, Reached}
 use Rattle.rules.specs.Constructions.{memoryAfter, largestAlong, Lawful}
 use Rattle.rules.specs.Tables.{Table, prohibits, requires, systemOf, counts, rising, isCounted, IsOrdering, marksOf, recordKeeper, tablePlan}
 use Rattle.rules.specs.Judges.{satisfiesPair, satisfies}
-use Rattle.rules.proofs.Bools.{by, clash, or-cases, and-both, and-parts, bool-ext}
+use Rattle.rules.proofs.Bools.{by, or-cases, and-both, and-parts, bool-ext}
 use Rattle.rules.proofs.Sets.{any-map, any-find, any-intro, below-find, below-intro}
-use Rattle.rules.proofs.Reach.{Leads, path-append, path-reaches, together-view, together-sym, inside-of-return, inside-parts, Met, met-view, met-same}
+use Rattle.rules.proofs.Reach.{Leads, path-append, together-view, inside-of-return, inside-parts, Met, met-view, met-same}
 use Rattle.rules.proofs.Runs.{path-below}
 use Rattle.rules.proofs.Appearance.{kept-occurs, keep-free, occurs-none, none-occurs, moved-occurs, closed-walk}
 use Rattle.rules.proofs.Steps.{plan-same}

@@ -12,18 +12,18 @@
 --                                          repetition after the r-th
 use mathlib.Core.Path.{_≡_, refl, sym, ap, _∙_, subst}
 use mathlib.Core.Logic.{_↔_, _⊎_, inl, inr, ⊎-elim}
-use mathlib.Core.Bool.{Bool, true, false, _&&_, _||_, true≢false, false≢true}
+use mathlib.Core.Bool.{Bool, true, false, _||_, true≢false, false≢true}
 use mathlib.Core.List.{List, [], _∷_, _++_, append-assoc, append-nil}
 use Prim.Native.Nat.{ℕ, zero, suc, _+_, _-_, _≤_, _<_}
-use native.Mathlib.Nat.{zero-add, suc-add, add-comm, add-zero}
+use native.Mathlib.Nat.{zero-add, suc-add, add-comm}
 use native.Mathlib.Omega.{arith}
 use lib.Dec.{eqb, ltb, leb}
-use lib.ListN.{length, length-append}
+use lib.ListN.{length}
 use borrow.Author.Tests.{eqb-true, eq-eqb, leb-true, leb-false, le-leb, lt-leb, ltb-true, ltb-false}
 use Rattle.rules.specs.Basics.{any, SameSet, repeated}
 use Rattle.rules.specs.Systems.{System, Path, here, step}
 use Rattle.rules.specs.Runs.{strayLetter, At, standing, reads, goesBy, Taken, taken, isTaken, passFrom, settled, recurring, Stop, MeetsMissing, TakenIn, Recurs}
-use Rattle.rules.proofs.Bools.{by, clash, or-cases, or-left, or-right, or-none, and-both, and-parts, bool-ext}
+use Rattle.rules.proofs.Bools.{by, clash, or-cases, or-left, or-right, or-none, and-parts, bool-ext}
 use Rattle.rules.proofs.Sets.{any-append}
 use Rattle.rules.proofs.Reach.{path-append}
 use Rattle.rules.proofs.Pigeonhole.{pigeonhole}

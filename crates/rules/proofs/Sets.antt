@@ -13,7 +13,7 @@ use native.Mathlib.Omega.{arith}
 use lib.Dec.{eqb, ltb}
 use borrow.Author.Tests.{eqb-true, eqb-false, eq-eqb, ltb-true, ltb-false}
 use Rattle.rules.specs.Basics.{any, SameSet, anyBelow, isIn, least, largest}
-use Rattle.rules.proofs.Bools.{by, clash, or-cases, or-left, or-right, or-none, bool-ext}
+use Rattle.rules.proofs.Bools.{by, clash, or-cases, or-left, or-right, or-none}
 
 pub any-append : {A : Type 0} (b : A → Bool) (xs ys : List A) → any b (xs ++ ys) ≡ any b xs || any b ys
 any-append b [] ys = refl

@@ -2,12 +2,11 @@
 --     step-missing, step-inside, step-crossing     the three cases, whole
 --     step-there, step-present, step-source        a step is there exactly if the transition is, and leads where it leads
 --     plan-same                                    where sameness of memories is equality, sameness of rows is
-use mathlib.Core.Path.{_≡_, refl, ap, ap₂, _∙_}
-use mathlib.Core.Bool.{Bool, true, false, not}
+use mathlib.Core.Path.{_≡_, refl, ap, ap₂}
+use mathlib.Core.Bool.{true, false}
 use Prim.Native.Nat.{ℕ, _≤_, _<_}
 use lib.Dec.{eqb, leb}
 use borrow.Author.Tests.{eqb-true, eq-eqb, leb-true, leb-false, le-leb, lt-leb}
-use Rattle.rules.specs.Basics.{pick}
 use Rattle.rules.specs.Systems.{System, isInside}
 use Rattle.rules.specs.Rows.{Step, Row, row, Keeper, SameIsEqual, planOf, stepOf, missingPriority, crossingPriority}
 use Rattle.rules.proofs.Bools.{by, clash, and-both, and-parts}

@@ -7,7 +7,7 @@
 --     RabinSays, ParitySays                   judging a looped word
 --     RestSays                                the rest of a piece as that very part of it
 use mathlib.Core.Path.{_≡_}
-use mathlib.Core.Bool.{Bool, _||_}
+use mathlib.Core.Bool.{_||_}
 use mathlib.Core.List.{List, [], _++_}
 use Prim.Native.Nat.{ℕ, _-_, _*_}
 use lib.Dec.{eqb, ltb}
