@@ -8,11 +8,11 @@ use Prim.Native.Nat.{ℕ, _≤_, _<_}
 use lib.Dec.{eqb, leb}
 use borrow.Author.Tests.{eqb-true, eq-eqb, leb-true, leb-false, le-leb, lt-leb}
 use Rattle.rules.specs.Systems.{System, isInside}
-use Rattle.rules.specs.Rows.{Step, Row, row, Keeper, SameIsEqual, planOf, stepOf, missingPriority, crossingPriority}
+use Rattle.rules.specs.Rows.{Step, Row, row, Keeper, SameIsEqual, stepOf, planOf}
 use Rattle.rules.proofs.Bools.{by, clash, and-both, and-parts}
 
 module _ {M : Type 0} (s : System) (k : Keeper M) (r : Row M) (a : ℕ) where
-  pub step-missing : s .states ≤ s .go (r .source) a → stepOf s k r a ≡ record { there = false; to = r; prio = missingPriority }
+  pub step-missing : s .states ≤ s .go (r .source) a → stepOf s k r a ≡ record { there = false; to = r; prio = 0 }
   unfolding stepOf
   step-missing h = rw (le-leb (s .states) (s .go (r .source) a) h)
 
@@ -20,7 +20,7 @@ module _ {M : Type 0} (s : System) (k : Keeper M) (r : Row M) (a : ℕ) where
   unfolding stepOf
   step-inside h i = rw (lt-leb (s .states) (s .go (r .source) a) h, i)
 
-  pub step-crossing : s .go (r .source) a < s .states → isInside s (r .source) a ≡ false → stepOf s k r a ≡ record { there = true; to = row (s .go (r .source) a) (k .enter (s .go (r .source) a)); prio = crossingPriority }
+  pub step-crossing : s .go (r .source) a < s .states → isInside s (r .source) a ≡ false → stepOf s k r a ≡ record { there = true; to = row (s .go (r .source) a) (k .enter (s .go (r .source) a)); prio = 1 }
   unfolding stepOf
   step-crossing h i = rw (lt-leb (s .states) (s .go (r .source) a) h, i)
 

@@ -17,6 +17,7 @@
 --     Row                      a source state with a memory
 --     Keeper                   a kind of memory: what it is where a component is entered, how it moves along an inside transition, the
 --                              priority of that transition, and when two memories are the same
+--     missingStep, insideStep, crossingStep     the three kinds of transition; a crossing enters its component anew
 --     stepOf, planOf           the rows of a transition system with a keeper: missing, inside and crossing transitions, said once
 use mathlib.Core.Path.{_≡_}
 use mathlib.Core.Logic.{_⊎_}
@@ -123,17 +124,17 @@ missingPriority = 0
 abbrev pub crossingPriority : ℕ
 crossingPriority = 1
 
+abbrev pub missingStep : {M : Type 0} → Row M → Step (Row M)
+missingStep r = record { there = false; to = r; prio = missingPriority }
+
+abbrev pub insideStep : {M : Type 0} → System → Keeper M → Row M → ℕ → Step (Row M)
+insideStep s k r a = record { there = true; to = row (s .go (r .source) a) (k .move (r .source) a (r .memory)); prio = k .prio (r .source) a (r .memory) }
+
+abbrev pub crossingStep : {M : Type 0} → System → Keeper M → Row M → ℕ → Step (Row M)
+crossingStep s k r a = record { there = true; to = row (s .go (r .source) a) (k .enter (s .go (r .source) a)); prio = crossingPriority }
+
 unfoldable pub stepOf : {M : Type 0} → System → Keeper M → Row M → ℕ → Step (Row M)
-stepOf s k r a =
-    let q = r .source in
-    let x = s .go q a in
-    pick
-    (leb (s .states) x)
-    (record { there = false; to = r; prio = missingPriority })
-    (pick
-    (isInside s q a)
-    (record { there = true; to = row x (k .move q a (r .memory)); prio = k .prio q a (r .memory) })
-    (record { there = true; to = row x (k .enter x); prio = crossingPriority }))
+stepOf s k r a = pick (leb (s .states) (s .go (r .source) a)) (missingStep r) (pick (isInside s (r .source) a) (insideStep s k r a) (crossingStep s k r a))
 
 abbrev pub sameRow : {M : Type 0} → Keeper M → Row M → Row M → Bool
 sameRow k r r′ = eqb (r .source) (r′ .source) && k .same (r .memory) (r′ .memory)
