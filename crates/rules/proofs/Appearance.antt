@@ -5,7 +5,8 @@
 --     after x o                      what stands behind x in o
 --     after-moved                    behind a pair that is not prohibited a move only drops the prohibited ones
 --     drop-moved                     a tail in which nothing is prohibited stays as it is
---     scan-*                         what the search for the priority can find
+--     priority-none, priority-last   document 01's rule: the last pair with either mark decides the priority
+--     scan-*                         what the search for the priority can find, from any position on
 --     even-satisfied, satisfied-even the two halves of the theorem
 use mathlib.Core.Path.{_≡_, refl, sym, ap, _∙_}
 use mathlib.Core.Logic.{_⊎_, inl, inr, ⊎-elim}
@@ -107,6 +108,28 @@ even-double p = eq-eqb (2 * p % 2) 0 (omega arith)
 
 -- ---- the search for the priority: it stands at position p, and best was found before
 module _ (m : Marks) where
+  -- the pairs with either mark
+  abbrev pub marked : ℕ → Bool
+  marked i = m .prohibited i || m .required i
+
+  scan-quiet : (o : List ℕ) (p best : ℕ) → any marked o ≡ false → priorityFrom p m o best ≡ best
+  scan-quiet [] p best h = refl
+  scan-quiet (i ∷ o) p best h =
+      let r = or-none (marked i) (any marked o) h in
+      let n = or-none (m .prohibited i) (m .required i) (r .0) in
+      rw (n .0, n .1) (scan-quiet o (suc p) best (r .1))
+
+  scan-last : (u : List ℕ) (i : ℕ) (v : List ℕ) (p best : ℕ) → marked i ≡ true → any marked v ≡ false → priorityFrom p m (u ++ (i ∷ v)) best ≡ pick (m .prohibited i) (suc (2 * (p + length u))) (2 * (p + length u))
+  scan-last [] i v p best h q = scan-quiet v (suc p) _ q ∙ by (m .prohibited i) (λ e. rw e (omega arith)) (λ e. let f = rw e at h in rw (e, f) (omega arith))
+  scan-last (j ∷ u) i v p best h q = let e : suc p + length u ≡ p + suc (length u) = omega arith in scan-last u i v (suc p) _ h q ∙ ap (λ (n : ℕ). pick (m .prohibited i) (suc (2 * n)) (2 * n)) e
+
+  -- document 01's rule: the last marked pair decides, and there may be none
+  pub priority-none : (o : List ℕ) → any marked o ≡ false → priority m o ≡ 1
+  priority-none o h = scan-quiet o 1 1 h
+
+  pub priority-last : (u : List ℕ) (i : ℕ) (v : List ℕ) → marked i ≡ true → any marked v ≡ false → priority m (u ++ (i ∷ v)) ≡ pick (m .prohibited i) (suc (2 * (1 + length u))) (2 * (1 + length u))
+  priority-last u i v h q = scan-last u i v 1 1 h q
+
   -- the priority found after one pair more
   abbrev found : ℕ → ℕ → ℕ → ℕ
   found p i best = pick (m .prohibited i) (suc (2 * p)) (pick (m .required i) (2 * p) best)
@@ -161,17 +184,17 @@ module _ (m : Marks) where
 -- ---- moves
 module _ (arr : List ℕ → List ℕ) (law : Rearranges arr) where
   module _ (p : ℕ → Bool) where
-    pub moved-length : (o : List ℕ) → length (moved arr p o) ≡ length o
-    moved-length o = simp (length-append, law .same-length) (kept-length p o)
-
-    pub moved-occurs : (x : ℕ) (o : List ℕ) → occurs x (moved arr p o) ≡ occurs x o
-    moved-occurs x o = simp (occurs-append, law .same-occurs) (kept-occurs p x o)
-
     arranged-free : (x : ℕ) (o : List ℕ) → p x ≡ false → isIn x (arr (keep p o)) ≡ false
     arranged-free x o h = occurs-none x (arr (keep p o)) (law .same-occurs x (keep p o) ∙ none-occurs x (keep p o) (keep-free p x o h))
 
     pub after-moved : (x : ℕ) (o : List ℕ) → p x ≡ false → after x (moved arr p o) ≡ keep (λ i. not (p i)) (after x o)
     after-moved x o h = after-append x (arr (keep p o)) (others p o) (arranged-free x o h) ∙ after-others p x o h
+
+    pub moved-length : (o : List ℕ) → length (moved arr p o) ≡ length o
+    moved-length o = simp (length-append, law .same-length) (kept-length p o)
+
+    pub moved-occurs : (x : ℕ) (o : List ℕ) → occurs x (moved arr p o) ≡ occurs x o
+    moved-occurs x o = simp (occurs-append, law .same-occurs) (kept-occurs p x o)
 
     moved-holds : (x : ℕ) (o : List ℕ) → p x ≡ false → isIn x (moved arr p o) ≡ isIn x o
     moved-holds x o h = any-append (λ y. eqb x y) (arr (keep p o)) (others p o) ∙ rw (arranged-free x o h) (keep-hold (λ i. not (p i)) x o (rw h))
