@@ -5,37 +5,35 @@ use mathlib.Core.Path.{_≡_, sym, _∙_}
 use mathlib.Core.Bool.{false, not, _&&_, _||_}
 use mathlib.Core.List.{List, _++_, append-assoc}
 use Prim.Native.Nat.{ℕ, _-_, _*_, _≤_}
-use native.Mathlib.Omega.{arith}
 use lib.Dec.{eqb, ltb, leb}
 use lib.ListN.{length, drop, replicate}
-use borrow.Author.Tests.{eqb-true, eqb-false, ltb-false, leb-true, not-true}
+use borrow.Author.Tests.{eqb-true, ltb-false, leb-true, not-true}
 use Rattle.rules.specs.Basics.{firstOf, when}
 use Rattle.rules.specs.Limits.{maxRows}
 use Rattle.rules.specs.Refusals as Refusal
-use Rattle.rules.specs.Rows.{isFull, sources}
-use Rattle.rules.specs.Tables.{tableOf, tableFault, systemOf, tablePlan, recordKeeper, IsOrdering}
+use Rattle.rules.specs.Tables.{tableOf, tableFault, systemOf, recordKeeper, IsOrdering}
 use Rattle.rules.specs.Judges.{satisfies}
-use Rattle.rules.specs.Claims.{rows, targets, priorities, Agrees, Demands}
+use Rattle.rules.specs.Claims.{tableRows, targets, priorities, sourceStates, exceeds, Agrees, Demands}
 use Rattle.rules.specs.Says.{afterwards, arraysFault, translateFault, TranslateSays, TranslationAgrees}
 use Rattle.rules.proofs.Bools.{or-none, and-parts}
 use Rattle.rules.proofs.Refusals.{first-none, first-zero, when-none, taken-table}
 use Rattle.rules.proofs.Demand3.{demand-3}
 use Rattle.rules.proofs.RabinTables.{rabin-lawful}
 
-agrees : (bs : List ℕ) (c : ℕ) → tableFault bs ≡ 0 → c ≤ maxRows → isFull (tablePlan (tableOf bs)) c ≡ false → (a b d : List ℕ) → Agrees bs (length (rows bs c)) (targets bs c ++ a) (priorities bs c ++ b) (sources (rows bs c) ++ d)
+agrees : (bs : List ℕ) (c : ℕ) → tableFault bs ≡ 0 → c ≤ maxRows → exceeds bs c ≡ false → (a b d : List ℕ) → Agrees bs (length (tableRows bs c)) (targets bs c ++ a) (priorities bs c ++ b) (sourceStates bs c ++ d)
 agrees bs c fault within fits a b d =
     let t = tableOf bs in
     let ok = taken-table bs fault in
     let g = demand-3 (systemOf t) (t .start) (recordKeeper t) (satisfies t) (IsOrdering t) (rabin-lawful t) (ok .start-state) c fits within a b d (ok .some-letters) (ok .most-letters) in
     record {
-      words = λ lead l some lead-ok l-ok. let e = eqb-false (length l) 0 some in g .words lead l (omega arith) lead-ok l-ok;
+      words = g .words;
       judges = λ lead l. g .judges lead l ∙ rw fault;
       walks = λ xs h. let e = g .walks xs h in (λ p. sym e ∙ p, λ p. e ∙ p);
     }
 
 pub demands : Demands
 demands bs c h a b d =
-    let f = isFull (tablePlan (tableOf bs)) c in
+    let f = exceeds bs c in
     let r = and-parts (eqb (tableFault bs) 0) (leb 1 c && (leb c maxRows && not f)) h in
     let u = and-parts (leb 1 c) (leb c maxRows && not f) (r .1) in
     let v = and-parts (leb c maxRows) (not f) (u .1) in
@@ -55,15 +53,15 @@ unfolding translateFault
 says-agrees bs c a a′ b b′ d d′ e e′ number count says z =
     let t = tableOf bs in
     let k = c * t .letters in
-    let full = isFull (tablePlan t) c in
+    let full = exceeds bs c in
     let bad = ltb maxRows c || (ltb (length a) k || (ltb (length b) k || (ltb (length d) c || ltb (length e) c))) in
     let r = first-zero (tableFault bs) (firstOf (arraysFault c (t .letters) (length a) (length b) (length d) (length e)) (when full Refusal.full)) (sym (says .refusal) ∙ z) in
     let u = first-none (eqb c 0 || bad) 6 (when full Refusal.full) (r .1) in
     let v = or-none (eqb c 0) bad (u .0) in
     let w = or-none (ltb maxRows c) (ltb (length a) k || (ltb (length b) k || (ltb (length d) c || ltb (length e) c))) (v .1) in
-    let all = agrees bs c (r .0) (ltb-false maxRows c (w .0)) (when-none full 7 (u .1)) (behind k (targets bs c) a) (behind k (priorities bs c) b) (behind c (sources (rows bs c)) d) in
-    let at-a = after-success number k (targets bs c) a a′ z (says .targets) in
-    let at-b = after-success number k (priorities bs c) b b′ z (says .priorities) in
-    let at-d = after-success number c (sources (rows bs c)) d d′ z (says .states) in
-    let some : length (rows bs c) ≡ count = sym (rw z at (says .count)) in
+    let all = agrees bs c (r .0) (ltb-false maxRows c (w .0)) (when-none full 7 (u .1)) (behind k (targets bs c) a) (behind k (priorities bs c) b) (behind c (sourceStates bs c) d) in
+    let at-a = after-success number k (targets bs c) a a′ z (says .target-array) in
+    let at-b = after-success number k (priorities bs c) b b′ z (says .priority-array) in
+    let at-d = after-success number c (sourceStates bs c) d d′ z (says .state-array) in
+    let some : length (tableRows bs c) ≡ count = sym (rw z at (says .count)) in
     rw (at-a, at-b, at-d, some) at all

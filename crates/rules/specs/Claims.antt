@@ -1,38 +1,53 @@
 -- Demand 3: no looped word and no closed walk parts the two tables.
---     rows, targets, priorities     the translation of the table that the bytes say, within a capacity
---     translated bs c               the table is taken, the capacity is in range, and the reachable rows do not exceed it
---     Agrees bs n ts ps ss          n rows with these targets, priorities and source states agree with the Rabin table: on words of
---                                   any length, before the judges, refusals included, and on closed walks of any length
---     Demands                       every table that is translated agrees with its translation, whatever stands behind the rows
+--     tableRows bs c          the rows of the translation of the table that the bytes say, as far as the capacity c lets them be found
+--     targets bs c            its four arrays, each without what stands behind the rows
+--     priorities bs c
+--     sourceStates bs c
+--     recordNumbers bs c
+--     exceeds bs c            more than c rows are reachable: the translation is full
+--     translated bs c         the table is taken, the capacity is in range, and the rows do not exceed it
+--     Agrees bs n ts ps ss    n rows with these targets, priorities and source states agree with the Rabin table: on words of
+--                             any length, before the judges, refusals included, and on closed walks of any length
+--     Demands                 every table that is translated agrees with its translation, whatever stands behind the rows
 use mathlib.Core.Path.{_≡_}
 use mathlib.Core.Logic.{_↔_}
 use mathlib.Core.Bool.{Bool, true, false, _&&_, not}
-use mathlib.Core.List.{List, _++_}
-use Prim.Native.Nat.{ℕ}
+use mathlib.Core.List.{List, _++_, map}
+use Prim.Native.Nat.{ℕ, _<_}
 use lib.Dec.{eqb, leb}
 use lib.ListN.{length}
 use Rattle.rules.specs.Limits.{maxRows, noRow}
 use Rattle.rules.specs.Runs.{Taken, strayLetter, isClosedWalk, projected}
+use Rattle.rules.specs.Records.{decimal}
 use Rattle.rules.specs.Rows.{Row, rowsOf, isFull, allTargets, allPriorities, sources}
 use Rattle.rules.specs.Tables.{tableOf, tableFault, tablePlan}
 use Rattle.rules.specs.Judges.{satisfies, paritySystem, parityGood, rabinRun, parityRun, rabinJudge, parityJudge}
 
-abbrev pub translated : List ℕ → ℕ → Bool
-translated bs c = eqb (tableFault bs) 0 && (leb 1 c && (leb c maxRows && not (isFull (tablePlan (tableOf bs)) c)))
-
-abbrev pub rows : List ℕ → ℕ → List (Row (List ℕ))
-rows bs c = rowsOf (tablePlan (tableOf bs)) c
+abbrev pub tableRows : List ℕ → ℕ → List (Row (List ℕ))
+tableRows bs c = rowsOf (tablePlan (tableOf bs)) c
 
 abbrev pub targets : List ℕ → ℕ → List ℕ
-targets bs c = allTargets (tablePlan (tableOf bs)) noRow (rows bs c)
+targets bs c = allTargets (tablePlan (tableOf bs)) noRow (tableRows bs c)
 
 abbrev pub priorities : List ℕ → ℕ → List ℕ
-priorities bs c = allPriorities (tablePlan (tableOf bs)) (rows bs c)
+priorities bs c = allPriorities (tablePlan (tableOf bs)) (tableRows bs c)
+
+abbrev pub sourceStates : List ℕ → ℕ → List ℕ
+sourceStates bs c = sources (tableRows bs c)
+
+abbrev pub recordNumbers : List ℕ → ℕ → List ℕ
+recordNumbers bs c = map (λ r. decimal (r .memory)) (tableRows bs c)
+
+abbrev pub exceeds : List ℕ → ℕ → Bool
+exceeds bs c = isFull (tablePlan (tableOf bs)) c
+
+abbrev pub translated : List ℕ → ℕ → Bool
+translated bs c = eqb (tableFault bs) 0 && (leb 1 c && (leb c maxRows && not (exceeds bs c)))
 
 pub record Agrees (bs : List ℕ) (n : ℕ) (ts ps ss : List ℕ) : Type 0 where
-  pub words : (lead l : List ℕ) → eqb (length l) 0 ≡ false → strayLetter (tableOf bs .letters) lead ≡ false → strayLetter (tableOf bs .letters) l ≡ false → parityRun n (tableOf bs .letters) ts ps lead l ≡ rabinRun (tableOf bs) lead l
+  pub words : (lead l : List ℕ) → 0 < length l → strayLetter (tableOf bs .letters) lead ≡ false → strayLetter (tableOf bs .letters) l ≡ false → parityRun n (tableOf bs .letters) ts ps lead l ≡ rabinRun (tableOf bs) lead l
   pub judges : (lead l : List ℕ) → parityJudge n (tableOf bs .letters) ts ps lead l ≡ rabinJudge bs lead l
   pub walks : (xs : List Taken) → isClosedWalk (paritySystem n (tableOf bs .letters) ts) xs ≡ true → (parityGood (tableOf bs .letters) ps xs ≡ true) ↔ (satisfies (tableOf bs) (projected ss xs) ≡ true)
 
 abbrev pub Demands : Type 0
-Demands = (bs : List ℕ) (c : ℕ) → translated bs c ≡ true → (a b d : List ℕ) → Agrees bs (length (rows bs c)) (targets bs c ++ a) (priorities bs c ++ b) (sources (rows bs c) ++ d)
+Demands = (bs : List ℕ) (c : ℕ) → translated bs c ≡ true → (a b d : List ℕ) → Agrees bs (length (tableRows bs c)) (targets bs c ++ a) (priorities bs c ++ b) (sourceStates bs c ++ d)

@@ -1,12 +1,16 @@
 -- Both judges, their refusals, and the rest of a piece.
 --     Answer                     a judge's answer as document 01's number and value: 0 accepts, 1 rejects, 2 stops with the letters read,
 --                                3 refused with the refusal's number
+--     accepts, rejects, stops n, refused n     the four answers
 --     judgedBy s q lead l good   stops, or accepts exactly if the recurring transitions are good
 --     satisfiesPair, satisfies   a set of transitions satisfies a pair (a Rabin pair), the table
 --     paritySystem n m ts        the transition system of a parity table of n rows
+--     priorityAt m ps x          the priority of a transition of a parity table
 --     parityGood m ps            the largest priority of a set of transitions is even
 --     rabinRun, parityRun        the answers to a word of letters, of any length
---     wordFault m lead l         10 and 9;  parityFault  11
+--     wordFault m lead l         10 and 9
+--     parityFault n m ts ps      11
+--     unlessRefused f x          the answer x, unless there is a refusal f
 --     rabinJudge, parityJudge    the answers with their refusals
 --     restOf lead l i            from place i of the word to the end of its piece
 use mathlib.Core.Bool.{Bool, not, _&&_, _||_}
@@ -70,7 +74,6 @@ wordFault m lead l = firstOf (when (eqb (length l) 0 || (ltb maxPiece (length le
 abbrev pub parityFault : ℕ → ℕ → List ℕ → List ℕ → ℕ
 parityFault n m ts ps = when (eqb n 0 || (ltb maxRows n || (eqb m 0 || (ltb maxLetters m || (ltb (length ts) (n * m) || (ltb (length ps) (n * m) || targetFault n noRow (take (n * m) ts))))))) Refusal.parity
 
--- the answer behind a refusal, if there is one
 abbrev pub unlessRefused : ℕ → Answer → Answer
 unlessRefused f x = pick (leb 1 f) (refused f) x
 

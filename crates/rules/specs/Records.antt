@@ -5,10 +5,12 @@
 --     Rearranges arr       arr keeps every element, as often as it stood
 --     priority m o         from the record before the move: with p the largest position of a pair with either mark, 1 if there is none,
 --                          2p + 1 if that pair is prohibited, else 2p
+--     priorityFrom p m o best      the same where o begins at position p of a record and best is the priority found before it
 --     movedAlong arr ms o          the record o after a walk whose transitions have the marks ms
 --     largestPriority arr ms o     the largest priority on that walk
 --     satisfied ms i               pair i is never prohibited and once required on the walk
 --     decimal o            the pair numbers read as one decimal number, 0 if there is none
+--     decimalFrom v o      the same behind the digits of v
 --     sameOrder o o′       the two hold the same pairs in the same order
 use mathlib.Core.Path.{_≡_}
 use mathlib.Core.Bool.{Bool, true, false, not, _&&_}
@@ -32,7 +34,6 @@ pub record Rearranges (arr : List ℕ → List ℕ) : Type 0 where
   pub same-length : (o : List ℕ) → length (arr o) ≡ length o
   pub same-occurs : (i : ℕ) (o : List ℕ) → occurs i (arr o) ≡ occurs i o
 
--- i stands at position p of the whole record, and best is the priority found before it
 abbrev pub priorityFrom : ℕ → Marks → List ℕ → ℕ → ℕ
 priorityFrom p m [] best = best
 priorityFrom p m (i ∷ o) best = priorityFrom (suc p) m o (pick (m .prohibited i) (suc (2 * p)) (pick (m .required i) (2 * p) best))

@@ -2,6 +2,7 @@
 --     Step                     what a row does by a letter: whether the transition is there, the row it leads to, its priority
 --     Plan                     what is explored: the letters, the first row, the step, and when two rows are the same
 --     SameIsEqual g            sameness of rows is equality
+--     placeOf b xs             the place of the first element that passes b, past the end for none
 --     numberOf g r rs          the number of the first row of rs that is the same as r, past the end for absent
 --     met g rs r a             rs after the row r is read by the letter a: its target added at the end, if it is there and absent
 --     foundBy f a g r rs       rs after r is read by the letters a, a + 1 .., f of them
@@ -9,15 +10,22 @@
 --     rowsOf g c               the reachable rows in order of discovery, rows taken by number and letters rising within each; no
 --                              further row is read once there are more than c
 --     isFull g c               more than c rows were found
+--     rowAt g rs i             row number i
 --     Reached g r              some letters lead from the first row to r
 --     Distinct g rs            no row stands twice in rs
---     Discovered g rs k        row k is what a transition of an earlier row leads to, and every transition that is read earlier, rows
---                              by number and letters rising within each, leads to a row numbered below k
---     allTargets, allPriorities     one list for each row, joined; a missing transition has the target `none`
+--     Earlier j b i a          row j is read by the letter b before row i is by a: rows by number, letters rising within each
+--     Discovered g rs k        row k is what a transition of an earlier row leads to, and every transition that is read earlier leads to
+--                              a row numbered below k
+--     targetNumber g none rs r a     the number of the row to which r leads by a, `none` where the transition is missing
+--     allTargets, allPriorities     one list for each row, joined
 --     Row                      a source state with a memory
+--     row q m                  the row of state q and memory m
+--     sources rs               the source state of each row
 --     Keeper                   a kind of memory: what it is where a component is entered, how it moves along an inside transition, the
 --                              priority of that transition, and when two memories are the same
+--     missingPriority, crossingPriority     the priorities of a missing and of a crossing transition
 --     missingStep, insideStep, crossingStep     the three kinds of transition; a crossing enters its component anew
+--     sameRow k r r′           the two have the same state and the same memory
 --     stepOf, planOf           the rows of a transition system with a keeper: missing, inside and crossing transitions, said once
 use mathlib.Core.Path.{_≡_}
 use mathlib.Core.Logic.{_⊎_}

@@ -2,9 +2,12 @@
 -- A looped word (an ultimately periodic word) is a lead-in and a loop that is repeated for ever.
 --     strayLetter m w            some byte of w is no letter
 --     At                         where a run stands: stopped or not, the state, the letters read
+--     standing b p n             stopped or not, at state p after n letters
 --     reads s x a                one letter more: a run that meets no transition stops where it stands, and that letter is not counted
 --     goesBy s x w               the letters of w, one after the other
 --     Taken                      a transition, as the state that it leaves and its letter
+--     taken p a                  the transition of state p by the letter a
+--     isTaken x y                x and y are the same transition
 --     passFrom s p w             the transitions taken in reading w from p
 --     settled s q lead l         the run from q after the lead-in and as many repetitions of the loop as there are states
 --     recurring s q lead l       the transitions taken in as many repetitions more: of that many repetitions some begins at

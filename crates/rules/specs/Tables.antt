@@ -3,17 +3,22 @@
 --     cell m q a               the number of the cell of state q and letter a
 --     tableOf bs               the table that the bytes say
 --     targetOf t q a           where q goes by a; no state where the transition is missing, nor past the last cell
---     prohibits, requires      the transition of q by a has pair i's prohibited (required) bit: it is in the pair's Fin (Inf) set
+--     prohibits t q a i        the transition of q by a has pair i's prohibited bit: it is in the pair's Fin set
+--     requires t q a i         the transition of q by a has pair i's required bit: it is in the pair's Inf set
+--     sizesFault n m k         a size is out of range;  tableLength n m  the bytes that the sizes demand
+--     targetFault n none ts    some target is neither below n nor the missing one;  marksFault  the same for marks
 --     tableFault bs            the refusal of the bytes, 1 to 6 in document 01's order, 0 if the table is taken
 --     systemOf t               the table's transition system
 --     counts t q i             pair i counts in q's component: some inside transition of it has the required bit
 --     rising t q               the pairs that count in q's component, rising
+--     isCounted t q i          i is a pair, and it counts in q's component
 --     IsOrdering t q o         o holds each pair that counts in q's component once, and nothing else
+--     marksOf t q a            the marks of the transition of q by a
 --     recordKeeper t           index appearance records as the memory of rows
 --     tablePlan t              the rows of the table's translation
 use mathlib.Core.Path.{_≡_}
 use mathlib.Core.Bool.{Bool, false, not, _&&_, _||_}
-use mathlib.Core.List.{List, [], _∷_, map}
+use mathlib.Core.List.{List, [], _∷_}
 use Prim.Native.Nat.{ℕ, suc, _+_, _-_, _*_, _^_}
 use lib.Dec.{eqb, ltb, leb}
 use lib.ListN.{length, getD, take, drop}
@@ -21,7 +26,7 @@ use Rattle.rules.specs.Basics.{pick, any, firstOf, when, occurs, keep, t
 use Rattle.rules.specs.Limits.{maxStates, maxLetters, maxPairs, headerSize, noState}
 use Rattle.rules.specs.Refusals as Refusal
 use Rattle.rules.specs.Systems.{System, metWithin}
-use Rattle.rules.specs.Records.{Marks, asTheyStood, moved, priority, decimal, sameOrder}
+use Rattle.rules.specs.Records.{Marks, asTheyStood, moved, priority, sameOrder}
 use Rattle.rules.specs.Rows.{Keeper, Row, Plan, planOf}
 
 pub record Table : Type 0 where
@@ -57,7 +62,7 @@ sizesFault n m k = eqb n 0 || (ltb maxStates n || (eqb m 0 || (ltb maxLetters m 
 abbrev pub tableLength : ℕ → ℕ → ℕ
 tableLength n m = headerSize + 3 * (n * m)
 
--- a target neither a state nor the missing one; over a parity table's targets too
+-- over the targets of a parity table too
 abbrev pub targetFault : ℕ → ℕ → List ℕ → Bool
 targetFault n none ts = any (λ x. not (ltb x n || eqb x none)) ts
 
@@ -101,6 +106,3 @@ recordKeeper t = record { enter = rising t; move = λ q a o. moved asTheyStood (
 
 abbrev pub tablePlan : Table → Plan (Row (List ℕ))
 tablePlan t = planOf (systemOf t) (t .start) (recordKeeper t)
-
-abbrev pub recordNumbers : List (Row (List ℕ)) → List ℕ
-recordNumbers rs = map (λ r. decimal (r .memory)) rs
