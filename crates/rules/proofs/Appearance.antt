@@ -119,7 +119,8 @@ module _ (m : Marks) where
       let n = or-none (m .prohibited i) (m .required i) (r .0) in
       rw (n .0, n .1) (scan-quiet o (suc p) best (r .1))
 
-  scan-last : (u : List ℕ) (i : ℕ) (v : List ℕ) (p best : ℕ) → marked i ≡ true → any marked v ≡ false → priorityFrom p m (u ++ (i ∷ v)) best ≡ pick (m .prohibited i) (suc (2 * (p + length u))) (2 * (p + length u))
+  scan-last : (u : List ℕ) (i : ℕ) (v : List ℕ) (p best : ℕ) → marked i ≡ true → any marked v ≡ false
+      → priorityFrom p m (u ++ (i ∷ v)) best ≡ pick (m .prohibited i) (suc (2 * (p + length u))) (2 * (p + length u))
   scan-last [] i v p best h q = scan-quiet v (suc p) _ q ∙ by (m .prohibited i) (λ e. rw e (omega arith)) (λ e. let f = rw e at h in rw (e, f) (omega arith))
   scan-last (j ∷ u) i v p best h q = let e : suc p + length u ≡ p + suc (length u) = omega arith in scan-last u i v (suc p) _ h q ∙ ap (λ (n : ℕ). pick (m .prohibited i) (suc (2 * n)) (2 * n)) e
 
@@ -127,7 +128,8 @@ module _ (m : Marks) where
   pub priority-none : (o : List ℕ) → any marked o ≡ false → priority m o ≡ 1
   priority-none o h = scan-quiet o 1 1 h
 
-  pub priority-last : (u : List ℕ) (i : ℕ) (v : List ℕ) → marked i ≡ true → any marked v ≡ false → priority m (u ++ (i ∷ v)) ≡ pick (m .prohibited i) (suc (2 * (1 + length u))) (2 * (1 + length u))
+  pub priority-last : (u : List ℕ) (i : ℕ) (v : List ℕ) → marked i ≡ true → any marked v ≡ false
+      → priority m (u ++ (i ∷ v)) ≡ pick (m .prohibited i) (suc (2 * (1 + length u))) (2 * (1 + length u))
   priority-last u i v h q = scan-last u i v 1 1 h q
 
   -- the priority found after one pair more
@@ -146,26 +148,30 @@ module _ (m : Marks) where
   scan-result (i ∷ o) p best h = by (m .prohibited i) (λ e. rw e (inr (omega (arith, scan-keeps o (suc p) (suc (2 * p)) (omega arith))))) (λ e. rw e (by (m .required i) (λ f. rw f (inr (scan-keeps o (suc p) (2 * p) (omega arith)))) (λ f. rw f (⊎-elim inl (λ g. inr (omega arith)) (scan-result o (suc p) best (omega arith))))))
 
   -- a result of at most 2(p + k): nothing is prohibited from the k-th on
-  pub scan-none-prohibited : (o : List ℕ) (p k best : ℕ) → best < 2 * p → priorityFrom p m o best ≤ 2 * (p + k) → any (m .prohibited) (drop k o) ≡ false
+  pub scan-none-prohibited : (o : List ℕ) (p k best : ℕ) → best < 2 * p → priorityFrom p m o best ≤ 2 * (p + k)
+      → any (m .prohibited) (drop k o) ≡ false
   scan-none-prohibited [] p zero best b h = refl
   scan-none-prohibited [] p (suc k) best b h = refl
   scan-none-prohibited (i ∷ o) p zero best b h = let f = found-bounds p i best b in by (m .prohibited i) (λ e. absurd (omega (arith, rw e at h, scan-keeps o (suc p) (suc (2 * p)) (omega arith)))) (λ e. rw e (scan-none-prohibited o (suc p) zero (found p i best) (f .1) (omega arith)))
   scan-none-prohibited (i ∷ o) p (suc k) best b h = scan-none-prohibited o (suc p) k (found p i best) (found-bounds p i best b .1) (omega arith)
 
   -- a result of 2(p + k): something is required from the k-th on
-  pub scan-some-required : (o : List ℕ) (p k best : ℕ) → best < 2 * p → priorityFrom p m o best ≡ 2 * (p + k) → any (m .required) (drop k o) ≡ true
+  pub scan-some-required : (o : List ℕ) (p k best : ℕ) → best < 2 * p → priorityFrom p m o best ≡ 2 * (p + k)
+      → any (m .required) (drop k o) ≡ true
   scan-some-required [] p k best b h = absurd (omega arith)
   scan-some-required (i ∷ o) p zero best b h = by (m .prohibited i) (λ e. absurd (omega (arith, rw e at h, scan-keeps o (suc p) (suc (2 * p)) (omega arith)))) (λ e. by (m .required i) (λ f. rw f) (λ f. let h′ = rw (e, f) at h in absurd (⊎-elim (λ (g : priorityFrom (suc p) m o best ≡ best). omega arith) (λ (g : 2 * suc p ≤ priorityFrom (suc p) m o best). omega arith) (scan-result o (suc p) best (omega arith)))))
   scan-some-required (i ∷ o) p (suc k) best b h = scan-some-required o (suc p) k (found p i best) (found-bounds p i best b .1) (omega arith)
 
   -- nothing prohibited: the result is even, or what was found before
-  scan-clean : (o : List ℕ) (p best : ℕ) → any (m .prohibited) o ≡ false → (isEven (priorityFrom p m o best) ≡ true) ⊎ (priorityFrom p m o best ≡ best)
+  scan-clean : (o : List ℕ) (p best : ℕ) → any (m .prohibited) o ≡ false
+      → (isEven (priorityFrom p m o best) ≡ true) ⊎ (priorityFrom p m o best ≡ best)
   scan-clean [] p best h = inr refl
   scan-clean (i ∷ o) p best h =
       let r = or-none (m .prohibited i) (any (m .prohibited) o) h in
       rw (r .0) (by (m .required i) (λ f. rw f (inl (⊎-elim (λ e. e) (λ e. rw e (even-double p)) (scan-clean o (suc p) (2 * p) (r .1))))) (λ f. rw f (scan-clean o (suc p) best (r .1))))
 
-  scan-head : (x : ℕ) (o : List ℕ) (p best : ℕ) → best < 2 * p → m .prohibited x ≡ false → any (m .prohibited) o ≡ false → SeenFrom p (priorityFrom p m (x ∷ o) best) (m .required x)
+  scan-head : (x : ℕ) (o : List ℕ) (p best : ℕ) → best < 2 * p → m .prohibited x ≡ false → any (m .prohibited) o ≡ false
+      → SeenFrom p (priorityFrom p m (x ∷ o) best) (m .required x)
   scan-head x o p best b n c =
       by
       (m .required x)
@@ -173,7 +179,9 @@ module _ (m : Marks) where
       (λ f. rw (n, f) (record { even-or-below = ⊎-elim inl (λ e. inr (omega arith)) (scan-clean o (suc p) best c); not-below = λ h. absurd (false≢true h) }))
 
   -- x stands at position q, and neither it nor anything behind it is prohibited
-  scan-at : (x : ℕ) (o : List ℕ) (p q best : ℕ) → best < 2 * p → isIn x o ≡ true → m .prohibited x ≡ false → any (m .prohibited) (after x o) ≡ false → q + suc (length (after x o)) ≡ p + length o → SeenFrom q (priorityFrom p m o best) (m .required x)
+  scan-at : (x : ℕ) (o : List ℕ) (p q best : ℕ) → best < 2 * p → isIn x o ≡ true → m .prohibited x ≡ false
+      → any (m .prohibited) (after x o) ≡ false → q + suc (length (after x o)) ≡ p + length o
+      → SeenFrom q (priorityFrom p m o best) (m .required x)
   scan-at x [] p q best b i n c e = absurd (false≢true i)
   scan-at x (y ∷ o) p q best b i n c e =
       by
@@ -218,14 +226,16 @@ module _ (arr : List ℕ → List ℕ) (law : Rearranges arr) where
         within l = ap (λ (z : List ℕ). drop k (arr (keep p o) ++ z)) tail-stays ∙ ap (drop k) (sym (append-assoc (arr (keep p o)) (others p (take k o)) (drop k o))) ∙ drop-at front (drop k o) k (front-length l)
 
   -- ---- even: some pair of the tail at which the largest priority points is satisfied
-  tail-free : (ms : List Marks) (o : List ℕ) (k : ℕ) → largestPriority arr ms o ≤ 2 * suc k → (x : ℕ) → isIn x (drop k o) ≡ true → any (λ m. m .prohibited x) ms ≡ false
+  tail-free : (ms : List Marks) (o : List ℕ) (k : ℕ) → largestPriority arr ms o ≤ 2 * suc k → (x : ℕ) → isIn x (drop k o) ≡ true
+      → any (λ m. m .prohibited x) ms ≡ false
   tail-free [] o k h x i = refl
   tail-free (m ∷ ms) o k h x i =
       let c = scan-none-prohibited m o 1 k 1 (omega arith) (omega arith) in
       let d = drop-moved (m .prohibited) k o c in
       rw (any-none (m .prohibited) (drop k o) x c i) (tail-free ms (moved arr (m .prohibited) o) k (omega arith) x (rw d i))
 
-  tail-required : (ms : List Marks) (o : List ℕ) (k : ℕ) → largestPriority arr ms o ≡ 2 * suc k → (x : ℕ) × (isIn x (drop k o) ≡ true) × (any (λ m. m .required x) ms ≡ true)
+  tail-required : (ms : List Marks) (o : List ℕ) (k : ℕ) → largestPriority arr ms o ≡ 2 * suc k
+      → (x : ℕ) × (isIn x (drop k o) ≡ true) × (any (λ m. m .required x) ms ≡ true)
   tail-required [] o k h = absurd (omega arith)
   tail-required (m ∷ ms) o k h =
       let c = scan-none-prohibited m o 1 k 1 (omega arith) (omega arith) in
@@ -235,7 +245,8 @@ module _ (arr : List ℕ → List ℕ) (law : Rearranges arr) where
       (λ e. let r = any-find (m .required) (drop k o) (scan-some-required m o 1 k 1 (omega arith) (omega (arith, eqb-true (priority m o) (2 * suc k) e))) in (r .0, r .1, or-left (m .required (r .0)) (any (λ n. n .required (r .0)) ms) (r .2)))
       (λ e. let r = tail-required ms (moved arr (m .prohibited) o) k (omega (arith, eqb-false (priority m o) (2 * suc k) e)) in (r .0, rw d at (r .1), or-right (m .required (r .0)) (any (λ n. n .required (r .0)) ms) (r .2)))
 
-  even-satisfied : (m : Marks) (ms : List Marks) (o : List ℕ) → isEven (largestPriority arr (m ∷ ms) o) ≡ true → any (satisfied (m ∷ ms)) o ≡ true
+  even-satisfied : (m : Marks) (ms : List Marks) (o : List ℕ) → isEven (largestPriority arr (m ∷ ms) o) ≡ true
+      → any (satisfied (m ∷ ms)) o ≡ true
   even-satisfied m ms o h =
       let l = largestPriority arr (m ∷ ms) o in
       let k = l / 2 - 1 in
@@ -245,13 +256,16 @@ module _ (arr : List ℕ → List ℕ) (law : Rearranges arr) where
       any-intro (satisfied (m ∷ ms)) o (r .0) (isIn-drop (r .0) k o (r .1)) (rw (f, r .2))
 
   -- ---- satisfied: the tail behind the pair cannot shrink, so nothing of it is prohibited, and the priorities that reach it are even
-  after-shrinks : (x : ℕ) (ms : List Marks) (o : List ℕ) → any (λ m. m .prohibited x) ms ≡ false → length (after x (movedAlong arr ms o)) ≤ length (after x o)
+  after-shrinks : (x : ℕ) (ms : List Marks) (o : List ℕ) → any (λ m. m .prohibited x) ms ≡ false
+      → length (after x (movedAlong arr ms o)) ≤ length (after x o)
   after-shrinks x [] o h = omega arith
   after-shrinks x (m ∷ ms) o h =
       let r = or-none (m .prohibited x) (any (λ n. n .prohibited x) ms) h in
       omega (arith, after-shrinks x ms (moved arr (m .prohibited) o) (r .1), ap length (after-moved (m .prohibited) x o (r .0)), kept-length (m .prohibited) (after x o))
 
-  walk-seen : (x q : ℕ) (ms : List Marks) (o : List ℕ) → any (λ m. m .prohibited x) ms ≡ false → isIn x o ≡ true → length (after x o) ≤ length (after x (movedAlong arr ms o)) → q + suc (length (after x o)) ≡ 1 + length o → SeenFrom q (largestPriority arr ms o) (any (λ m. m .required x) ms)
+  walk-seen : (x q : ℕ) (ms : List Marks) (o : List ℕ) → any (λ m. m .prohibited x) ms ≡ false → isIn x o ≡ true
+      → length (after x o) ≤ length (after x (movedAlong arr ms o)) → q + suc (length (after x o)) ≡ 1 + length o
+      → SeenFrom q (largestPriority arr ms o) (any (λ m. m .required x) ms)
   walk-seen x q [] o h i l e = record { even-or-below = inl refl; not-below = λ f. absurd (false≢true f) }
   walk-seen x q (m ∷ ms) o h i l e =
       let r = or-none (m .prohibited x) (any (λ n. n .prohibited x) ms) h in
@@ -262,7 +276,8 @@ module _ (arr : List ℕ → List ℕ) (law : Rearranges arr) where
       let b = ap length (others-all (m .prohibited) (after x o) c) in
       seen-max (scan-at m x o 1 q 1 (omega arith) i (r .0) c e) (walk-seen x q ms o′ (r .1) (moved-holds (m .prohibited) x o (r .0) ∙ i) (omega arith) (omega (arith, moved-length (m .prohibited) o)))
 
-  satisfied-even : (m : Marks) (ms : List Marks) (o : List ℕ) → movedAlong arr (m ∷ ms) o ≡ o → any (satisfied (m ∷ ms)) o ≡ true → isEven (largestPriority arr (m ∷ ms) o) ≡ true
+  satisfied-even : (m : Marks) (ms : List Marks) (o : List ℕ) → movedAlong arr (m ∷ ms) o ≡ o → any (satisfied (m ∷ ms)) o ≡ true
+      → isEven (largestPriority arr (m ∷ ms) o) ≡ true
   satisfied-even m ms o closed h =
       let r = any-find (satisfied (m ∷ ms)) o h in
       let x = r .0 in
@@ -271,5 +286,6 @@ module _ (arr : List ℕ → List ℕ) (law : Rearranges arr) where
       let s = walk-seen x q (m ∷ ms) o (not-true (any (λ n. n .prohibited x) (m ∷ ms)) (f .0)) (r .1) (omega (arith, ap (λ (z : List ℕ). length (after x z)) closed)) (omega (arith, after-length x o)) in
       ⊎-elim (λ e. e) (λ l. absurd (omega (arith, s .not-below (f .1)))) (s .even-or-below)
 
-  pub closed-walk : (m : Marks) (ms : List Marks) (o : List ℕ) → movedAlong arr (m ∷ ms) o ≡ o → isEven (largestPriority arr (m ∷ ms) o) ≡ any (satisfied (m ∷ ms)) o
+  pub closed-walk : (m : Marks) (ms : List Marks) (o : List ℕ) → movedAlong arr (m ∷ ms) o ≡ o
+      → isEven (largestPriority arr (m ∷ ms) o) ≡ any (satisfied (m ∷ ms)) o
   closed-walk m ms o closed = bool-ext (isEven (largestPriority arr (m ∷ ms) o)) (any (satisfied (m ∷ ms)) o) (even-satisfied m ms o) (satisfied-even m ms o closed)

@@ -30,7 +30,8 @@ module _ {A B : Type 0} (h : A → List B) (m : ℕ) (even : (x : A) → length 
   joined-length [] = sym (zero-mul m)
   joined-length (x ∷ xs) = simp length-append (rw suc-mul (omega (arith, even x, joined-length xs)))
 
-  pub joined-at : (xs : List A) (z : List B) (i a : ℕ) (d : B) (d′ : A) → i < length xs → a < m → getD (joined h xs ++ z) (cell m i a) d ≡ getD (h (getD xs i d′)) a d
+  pub joined-at : (xs : List A) (z : List B) (i a : ℕ) (d : B) (d′ : A) → i < length xs → a < m
+      → getD (joined h xs ++ z) (cell m i a) d ≡ getD (h (getD xs i d′)) a d
   joined-at [] z i a d d′ l la = absurd (omega arith)
   joined-at (x ∷ xs) z zero a d d′ l la = rw (append-assoc (h x) (joined h xs) z, zero-mul m) (ap (λ (n : ℕ). getD (h x ++ (joined h xs ++ z)) n d) (omega arith) ∙ List·getD-append (h x) (joined h xs ++ z) d a (omega (arith, even x)))
   joined-at (x ∷ xs) z (suc i) a d d′ l la =
@@ -38,15 +39,18 @@ module _ {A B : Type 0} (h : A → List B) (m : ℕ) (even : (x : A) → length 
       rw (append-assoc (h x) (joined h xs) z, e) (getD-append-add (h x) (joined h xs ++ z) (cell m i a) d ∙ joined-at xs z i a d d′ (omega arith) la)
 
 -- tests that nothing passes
-pub tabulate-none : {B : Type 0} (b : B → Bool) (h : ℕ → B) (n i : ℕ) → ((a : ℕ) → i ≤ a → a < i + n → b (h a) ≡ false) → any b (tabulate n i h) ≡ false
+pub tabulate-none : {B : Type 0} (b : B → Bool) (h : ℕ → B) (n i : ℕ) → ((a : ℕ) → i ≤ a → a < i + n → b (h a) ≡ false)
+    → any b (tabulate n i h) ≡ false
 tabulate-none b h zero i f = refl
 tabulate-none b h (suc n) i f = rw (f i (omega arith) (omega arith)) (tabulate-none b h n (suc i) (λ a l u. f a (omega arith) (omega arith)))
 
-pub joined-none : {A B : Type 0} (b : B → Bool) (h : A → List B) (d : A) (xs : List A) → ((i : ℕ) → i < length xs → any b (h (getD xs i d)) ≡ false) → any b (joined h xs) ≡ false
+pub joined-none : {A B : Type 0} (b : B → Bool) (h : A → List B) (d : A) (xs : List A)
+    → ((i : ℕ) → i < length xs → any b (h (getD xs i d)) ≡ false) → any b (joined h xs) ≡ false
 joined-none b h d [] f = refl
 joined-none b h d (x ∷ xs) f = any-append b (h x) (joined h xs) ∙ rw (f 0 (omega arith)) (joined-none b h d xs (λ i l. f (suc i) (omega arith)))
 
-pub mapped-at : {A B : Type 0} (h : A → B) (xs : List A) (z : List B) (i : ℕ) (d : B) (d′ : A) → i < length xs → getD (map h xs ++ z) i d ≡ h (getD xs i d′)
+pub mapped-at : {A B : Type 0} (h : A → B) (xs : List A) (z : List B) (i : ℕ) (d : B) (d′ : A) → i < length xs
+    → getD (map h xs ++ z) i d ≡ h (getD xs i d′)
 mapped-at h [] z i d d′ l = absurd (omega arith)
 mapped-at h (x ∷ xs) z zero d d′ l = refl
 mapped-at h (x ∷ xs) z (suc i) d d′ l = mapped-at h xs z i d d′ (omega arith)

@@ -75,7 +75,8 @@ module _ {M : Type 0} (s : System) (start : ℕ) (k : Keeper M) (good : List Tak
   rows-length : (h : Row M → ℕ → ℕ) → length (joined (λ r. tabulate (s .letters) 0 (h r)) rs) ≡ length rs * s .letters
   rows-length h = joined-length (λ r. tabulate (s .letters) 0 (h r)) (s .letters) (λ r. tabulate-length (h r) (s .letters) 0) rs
 
-  cell-at : (h : Row M → ℕ → ℕ) (z : List ℕ) (i a d : ℕ) → i < length rs → a < s .letters → getD (joined (λ r. tabulate (s .letters) 0 (h r)) rs ++ z) (cell (s .letters) i a) d ≡ h (at i) a
+  cell-at : (h : Row M → ℕ → ℕ) (z : List ℕ) (i a d : ℕ) → i < length rs → a < s .letters
+      → getD (joined (λ r. tabulate (s .letters) 0 (h r)) rs ++ z) (cell (s .letters) i a) d ≡ h (at i) a
   cell-at h z i a d l la = joined-at (λ r. tabulate (s .letters) 0 (h r)) (s .letters) (λ r. tabulate-length (h r) (s .letters) 0) rs z i a d (g .first) l la ∙ tabulate-at (h (at i)) (s .letters) 0 a d la ∙ ap (h (at i)) (zero-add a)
 
   -- ---- the arrays, with whatever stands behind the rows
@@ -106,7 +107,8 @@ module _ {M : Type 0} (s : System) (start : ℕ) (k : Keeper M) (good : List Tak
 
     -- ---- the table of rows projects onto the system
     -- a transition that is there leads to the row of its step
-    target-there : (i a : ℕ) → i < length rs → a < s .letters → s .go (source i) a < s .states → (P .go i a < length rs) × (at (P .go i a) ≡ stepOf s k (at i) a .to)
+    target-there : (i a : ℕ) → i < length rs → a < s .letters → s .go (source i) a < s .states
+        → (P .go i a < length rs) × (at (P .go i a) ≡ stepOf s k (at i) a .to)
     target-there i a l la h =
         let t = step-there s k (at i) a h in
         let n = rows-closed g same c not-full i a l la t in
@@ -131,7 +133,8 @@ module _ {M : Type 0} (s : System) (start : ℕ) (k : Keeper M) (good : List Tak
 
     -- ---- closed walks
     -- along a path with a way back every transition is inside, so the memory and the priorities are the keeper's
-    walk-carried : {i : ℕ} {w : List ℕ} {j : ℕ} → i < length rs → Path P i w j → Leads s (source j) (source i) → (at j .memory ≡ memoryAfter s k (source i) (at i .memory) w) × (largest (priorityAt (s .letters) ps) (passFrom P i w) ≡ largestAlong s k (source i) (at i .memory) w)
+    walk-carried : {i : ℕ} {w : List ℕ} {j : ℕ} → i < length rs → Path P i w j → Leads s (source j) (source i)
+        → (at j .memory ≡ memoryAfter s k (source i) (at i .memory) w) × (largest (priorityAt (s .letters) ps) (passFrom P i w) ≡ largestAlong s k (source i) (at i .memory) w)
     walk-carried l here back = (refl, refl)
     walk-carried {i} {j = j} l (step {a = a} {w = w} la t r) back =
         let q = source i in
@@ -147,7 +150,8 @@ module _ {M : Type 0} (s : System) (start : ℕ) (k : Keeper M) (good : List Tak
           ap₂ max (priority-at i a l la ∙ ap (λ (x : Step (Row M)). x .prio) stepped) (rest .1 ∙ ap (λ (x : Row M). largestAlong s k (x .source) (x .memory) w) next),
         )
 
-    paths-agree : (i : ℕ) (w : List ℕ) → i < length rs → 0 < length w → Path P i w i → parityGood (s .letters) ps (passFrom P i w) ≡ good (passFrom s (source i) w)
+    paths-agree : (i : ℕ) (w : List ℕ) → i < length rs → 0 < length w → Path P i w i
+        → parityGood (s .letters) ps (passFrom P i w) ≡ good (passFrom s (source i) w)
     paths-agree i [] l some p = absurd (omega arith)
     paths-agree i (a ∷ w) l some p =
         let carried = walk-carried l p ([], here) in
@@ -163,7 +167,8 @@ module _ {M : Type 0} (s : System) (start : ℕ) (k : Keeper M) (good : List Tak
         rw (z .taken-by) (paths-agree (z .place) (z .letters) (z .is-state) (z .some) (z .path) ∙ ap good (sym (pass-projected (z .is-state) (z .path))))
 
     -- ---- looped words
-    looped-words-agree : (lead l : List ℕ) → 0 < length l → strayLetter (s .letters) lead ≡ false → strayLetter (s .letters) l ≡ false → judgedBy P 0 lead l (parityGood (s .letters) ps) ≡ judgedBy s start lead l good
+    looped-words-agree : (lead l : List ℕ) → 0 < length l → strayLetter (s .letters) lead ≡ false → strayLetter (s .letters) l ≡ false
+        → judgedBy P 0 lead l (parityGood (s .letters) ps) ≡ judgedBy s start lead l good
     looped-words-agree lead l some lead-ok l-ok =
         words-agree P s source projects (parityGood (s .letters) ps) good (λ xs ys e. ap isEven (largest-same (priorityAt (s .letters) ps) xs ys e)) (law .set-only) paths-agree 0 lead l (rows-some g same c) some lead-ok l-ok
         ∙ ap (λ (r : Row M). judgedBy s (r .source) lead l good) (rows-first g same c)
@@ -189,7 +194,8 @@ module _ {M : Type 0} (s : System) (start : ℕ) (k : Keeper M) (good : List Tak
         (simp length-append (omega (arith, rows-length (λ r a. stepOf s k r a .prio))))
         targets-taken
 
-    judges-agree : 1 ≤ s .letters → s .letters ≤ maxLetters → (lead l : List ℕ) → parityJudge (length rs) (s .letters) ts ps lead l ≡ unlessRefused (wordFault (s .letters) lead l) (judgedBy s start lead l good)
+    judges-agree : 1 ≤ s .letters → s .letters ≤ maxLetters → (lead l : List ℕ)
+        → parityJudge (length rs) (s .letters) ts ps lead l ≡ unlessRefused (wordFault (s .letters) lead l) (judgedBy s start lead l good)
     judges-agree some-letters most-letters lead l = rw (parity-taken some-letters most-letters) (by (leb 1 (wordFault (s .letters) lead l)) (λ e. rw e) (λ e. rw e (heard (taken-word (s .letters) lead l (omega (arith, leb-false 1 (wordFault (s .letters) lead l) e))))))
       where
         heard : TakenWord (s .letters) lead l → judgedBy P 0 lead l (parityGood (s .letters) ps) ≡ judgedBy s start lead l good

@@ -20,7 +20,8 @@ use Rattle.rules.proofs.Refusals.{first-none, first-zero, when-none, ta
 use Rattle.rules.proofs.Demand3.{demand-3}
 use Rattle.rules.proofs.RabinTables.{rabin-lawful}
 
-agrees : (bs : List ℕ) (c : ℕ) → tableFault bs ≡ 0 → c ≤ maxRows → exceeds bs c ≡ false → (a b d : List ℕ) → Agrees bs (length (tableRows bs c)) (targets bs c ++ a) (priorities bs c ++ b) (sourceStates bs c ++ d)
+agrees : (bs : List ℕ) (c : ℕ) → tableFault bs ≡ 0 → c ≤ maxRows → exceeds bs c ≡ false → (a b d : List ℕ)
+    → Agrees bs (length (tableRows bs c)) (targets bs c ++ a) (priorities bs c ++ b) (sourceStates bs c ++ d)
 agrees bs c fault within fits a b d =
     let t = tableOf bs in
     let ok = taken-table bs fault in
@@ -48,7 +49,8 @@ after-success : (number k : ℕ) (xs o o′ : List ℕ) → number ≡ 0 → o�
 unfolding behind
 after-success number k xs o o′ z e = sym (append-assoc xs (replicate (k - length xs) 0) (drop (length (xs ++ replicate (k - length xs) 0)) o)) ∙ sym (rw z at e)
 
-pub says-agrees : (bs : List ℕ) (c : ℕ) (a a′ b b′ d d′ e e′ : List ℕ) (number count : ℕ) → TranslateSays bs c a a′ b b′ d d′ e e′ number count → TranslationAgrees bs a′ b′ d′ number count
+pub says-agrees : (bs : List ℕ) (c : ℕ) (a a′ b b′ d d′ e e′ : List ℕ) (number count : ℕ)
+    → TranslateSays bs c a a′ b b′ d d′ e e′ number count → TranslationAgrees bs a′ b′ d′ number count
 unfolding translateFault
 says-agrees bs c a a′ b b′ d d′ e e′ number count says z =
     let t = tableOf bs in

@@ -58,7 +58,8 @@ module _ {A : Type 0} (g : Plan A) (law : SameIsEqual g) where
     some : 0 < length rs
     front : rowAt g rs 0 ≡ g .first
     once : (k : ℕ) → k < length rs → numberOf g (rowAt g rs k) rs ≡ k
-    closed : (j b : ℕ) → Earlier j b i a → b < g .letters → j < length rs → g .step (rowAt g rs j) b .there ≡ true → numberOf g (g .step (rowAt g rs j) b .to) rs < length rs
+    closed : (j b : ℕ) → Earlier j b i a → b < g .letters → j < length rs → g .step (rowAt g rs j) b .there ≡ true
+        → numberOf g (g .step (rowAt g rs j) b .to) rs < length rs
     ordered : (k : ℕ) → 0 < k → k < length rs → Discovered g rs k
 
   -- a row that is absent is added
@@ -81,7 +82,8 @@ module _ {A : Type 0} (g : Plan A) (law : SameIsEqual g) where
     last-number : numberOf g x more ≡ length rs
     last-number = place-added (g .same x) rs x absent (law .self x)
 
-    once-more : ((k : ℕ) → k < length rs → numberOf g (rowAt g rs k) rs ≡ k) → (k : ℕ) → k < length more → numberOf g (rowAt g more k) more ≡ k
+    once-more : ((k : ℕ) → k < length rs → numberOf g (rowAt g rs k) rs ≡ k) → (k : ℕ) → k < length more
+        → numberOf g (rowAt g more k) more ≡ k
     once-more h k l =
         by
         (ltb k (length rs))
@@ -89,7 +91,9 @@ module _ {A : Type 0} (g : Plan A) (law : SameIsEqual g) where
         (λ e. let z : k ≡ length rs = omega (arith, ltb-false k (length rs) e, more-length) in rw z (rw last-row last-number))
 
     -- a transition of an old row to an old row
-    old-step : (j b n : ℕ) → j < length rs → n ≤ length rs → (g .step (rowAt g rs j) b .there ≡ true → numberOf g (g .step (rowAt g rs j) b .to) rs < n) → g .step (rowAt g more j) b .there ≡ true → numberOf g (g .step (rowAt g more j) b .to) more < n
+    old-step : (j b n : ℕ) → j < length rs → n ≤ length rs
+        → (g .step (rowAt g rs j) b .there ≡ true → numberOf g (g .step (rowAt g rs j) b .to) rs < n)
+        → g .step (rowAt g more j) b .there ≡ true → numberOf g (g .step (rowAt g more j) b .to) more < n
     old-step j b n l le h t =
         let lt = h (rw (same-row j l) at t) in
         rw (same-row j l) (rw (same-number (g .step (rowAt g rs j) b .to) (omega arith)) lt)
@@ -107,7 +111,8 @@ module _ {A : Type 0} (g : Plan A) (law : SameIsEqual g) where
           nothing-new = λ j b e lb t. old-step j b k (omega (arith, earlier-row e, d .from-before)) (omega arith) (d .nothing-new j b e lb) t;
         }
 
-    discovered-last : {i a : ℕ} → Found i a rs → i < length rs → a < g .letters → g .step (rowAt g rs i) a .there ≡ true → g .step (rowAt g rs i) a .to ≡ x → Discovered g more (length rs)
+    discovered-last : {i a : ℕ} → Found i a rs → i < length rs → a < g .letters → g .step (rowAt g rs i) a .there ≡ true
+        → g .step (rowAt g rs i) a .to ≡ x → Discovered g more (length rs)
     discovered-last {i} {a} f l la t to =
         let o = same-row i l in
         record {
@@ -120,7 +125,8 @@ module _ {A : Type 0} (g : Plan A) (law : SameIsEqual g) where
           nothing-new = λ j b e lb t′. let lj : j < length rs = omega (arith, earlier-row e) in old-step j b (length rs) lj (omega arith) (f .closed j b e lb lj) t′;
         }
 
-    found-more : {i a : ℕ} → Found i a rs → i < length rs → a < g .letters → g .step (rowAt g rs i) a .there ≡ true → g .step (rowAt g rs i) a .to ≡ x → Found i (suc a) more
+    found-more : {i a : ℕ} → Found i a rs → i < length rs → a < g .letters → g .step (rowAt g rs i) a .there ≡ true
+        → g .step (rowAt g rs i) a .to ≡ x → Found i (suc a) more
     found-more {i} {a} f l la t to =
         record {
           some = omega (arith, more-length);
@@ -152,7 +158,8 @@ module _ {A : Type 0} (g : Plan A) (law : SameIsEqual g) where
   met-row : (rs : List A) (r : A) (a i : ℕ) → i < length rs → rowAt g (met g rs r a) i ≡ rowAt g rs i
   met-row rs r a i l = by (g .step r a .there && leb (length rs) (numberOf g (g .step r a .to) rs)) (λ e. rw e (List·getD-append rs (g .step r a .to ∷ []) (g .first) i l)) (λ e. rw e)
 
-  found-by : (n : ℕ) {i a : ℕ} {rs : List A} (r : A) → Found i a rs → rowAt g rs i ≡ r → i < length rs → a + n ≡ g .letters → Found i (g .letters) (foundBy n a g r rs) × (i < length (foundBy n a g r rs))
+  found-by : (n : ℕ) {i a : ℕ} {rs : List A} (r : A) → Found i a rs → rowAt g rs i ≡ r → i < length rs → a + n ≡ g .letters
+      → Found i (g .letters) (foundBy n a g r rs) × (i < length (foundBy n a g r rs))
   found-by zero {i} {a} {rs} r f e l h = let z : a ≡ g .letters = omega arith in (rw z at f, l)
   found-by (suc n) {i} {a} {rs} r f e l h = found-by n r (rw e at (found-met f l (omega arith))) (met-row rs r a i l ∙ e) (omega (arith, met-longer rs r a)) (omega arith)
 
@@ -162,7 +169,8 @@ module _ {A : Type 0} (g : Plan A) (law : SameIsEqual g) where
       earlier : {j b : ℕ} → Earlier j b (suc i) 0 → b < g .letters → Earlier j b i (g .letters)
       earlier {j} h lb = ⊎-elim (λ l. by (ltb j i) (λ e. inl (ltb-true j i e)) (λ e. inr (omega (arith, ltb-false j i e), lb))) (λ p. absurd (omega arith)) h
 
-  from-on : (n i c : ℕ) (rs : List A) → ltb i (length rs) && leb (length rs) c ≡ true → foundFrom (suc n) i g c rs ≡ foundFrom n (suc i) g c (foundBy (g .letters) 0 g (rowAt g rs i) rs)
+  from-on : (n i c : ℕ) (rs : List A) → ltb i (length rs) && leb (length rs) c ≡ true
+      → foundFrom (suc n) i g c rs ≡ foundFrom n (suc i) g c (foundBy (g .letters) 0 g (rowAt g rs i) rs)
   from-on n i c rs e = rw (e, foundFrom)
 
   from-end : (n i c : ℕ) (rs : List A) → ltb i (length rs) && leb (length rs) c ≡ false → foundFrom (suc n) i g c rs ≡ rs
@@ -234,7 +242,8 @@ module _ {A : Type 0} (g : Plan A) (law : SameIsEqual g) where
       pub rows-within : length rs ≤ c
       rows-within = ltb-false c (length rs) fits
 
-      pub rows-closed : (j b : ℕ) → j < length rs → b < g .letters → g .step (rowAt g rs j) b .there ≡ true → numberOf g (g .step (rowAt g rs j) b .to) rs < length rs
+      pub rows-closed : (j b : ℕ) → j < length rs → b < g .letters → g .step (rowAt g rs j) b .there ≡ true
+          → numberOf g (g .step (rowAt g rs j) b .to) rs < length rs
       rows-closed j b lj lb t = explored c .rows .closed j b (inl (⊎-elim (λ h. omega (arith, rows-within)) (λ h. omega arith) (explored c .ended))) lb lj t
 
       pub reached-row : {r : A} → Reached g r → numberOf g r rs < length rs
@@ -247,7 +256,8 @@ module _ {A : Type 0} (g : Plan A) (law : SameIsEqual g) where
     pub full-view : (isFull g c ≡ true) ↔ ((xs : List A) × (c < length xs) × Distinct g xs × ((k : ℕ) → k < length xs → Reached g (rowAt g xs k)))
     full-view = (λ h. (rs, ltb-true c (length rs) h, rows-distinct, rows-reached), λ f. by (isFull g c) (λ e. e) (λ e. absurd (crowded e f)))
       where
-        crowded : isFull g c ≡ false → (xs : List A) × (c < length xs) × Distinct g xs × ((k : ℕ) → k < length xs → Reached g (rowAt g xs k)) → ⊥
+        crowded : isFull g c ≡ false
+            → (xs : List A) × (c < length xs) × Distinct g xs × ((k : ℕ) → k < length xs → Reached g (rowAt g xs k)) → ⊥
         crowded e f =
             let xs = f .0 in
             let few = rows-within e in

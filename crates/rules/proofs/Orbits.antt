@@ -49,7 +49,8 @@ module _ (f : ℕ → ℕ) where
     abbrev pub Recur : Type 0
     Recur = (r : ℕ) → (k : ℕ) × (r ≤ k) × (c (iter f k p) ≡ true)
 
-    pub window : (i d w : ℕ) → 0 < d → d ≤ w → iter f d (iter f i p) ≡ iter f i p → Recur ↔ ((k : ℕ) × (k < w) × (c (iter f k (iter f i p)) ≡ true))
+    pub window : (i d w : ℕ) → 0 < d → d ≤ w → iter f d (iter f i p) ≡ iter f i p
+        → Recur ↔ ((k : ℕ) × (k < w) × (c (iter f k (iter f i p)) ≡ true))
     window i d w some wide round = (shown, recurs)
       where
         shown : Recur → (k : ℕ) × (k < w) × (c (iter f k (iter f i p)) ≡ true)

@@ -35,5 +35,7 @@ pigeonhole (suc n) f below = by (anyBelow (suc n) (λ i. eqb (f i) (f (suc n))))
     new : anyBelow (suc n) (λ i. eqb (f i) (f (suc n))) ≡ false → (r : ℕ) → r ≤ n → f r ≡ f (suc n) → ⊥
     new h r l e = clash (below-intro (suc n) (λ i. eqb (f i) (f (suc n))) r (omega arith) (eq-eqb (f r) (f (suc n)) e)) h
 
-    fewer : anyBelow (suc n) (λ i. eqb (f i) (f (suc n))) ≡ false → ((i j : ℕ) × (i < j) × (j ≤ n) × (without (f (suc n)) (f i) ≡ without (f (suc n)) (f j))) → (i j : ℕ) × (i < j) × (j ≤ suc n) × (f i ≡ f j)
+    fewer : anyBelow (suc n) (λ i. eqb (f i) (f (suc n))) ≡ false
+        → ((i j : ℕ) × (i < j) × (j ≤ n) × (without (f (suc n)) (f i) ≡ without (f (suc n)) (f j)))
+        → (i j : ℕ) × (i < j) × (j ≤ suc n) × (f i ≡ f j)
     fewer h r = (r .0, r .1, r .2, omega arith, without-same (f (suc n)) (f (r .0)) (f (r .1)) (new h (r .0) (omega arith)) (new h (r .1) (r .3)) (r .4))

@@ -78,7 +78,8 @@ module _ (t : Table) where
   pub ordering-together : (p q : ℕ) (o : List ℕ) → together s p q ≡ true → IsOrdering t p o → IsOrdering t q o
   ordering-together p q o h f i = f i ∙ ap (λ (b : Bool). pick (leb 1 i && (leb i (t .pairs) && b)) 1 0) (met-same s (λ x a. requires t x a i) p q h)
 
-  pub moved-ordering : (q a : ℕ) (o : List ℕ) → isInside s q a ≡ true → IsOrdering t q o → IsOrdering t (s .go q a) (moved asTheyStood (prohibits t q a) o)
+  pub moved-ordering : (q a : ℕ) (o : List ℕ) → isInside s q a ≡ true → IsOrdering t q o
+      → IsOrdering t (s .go q a) (moved asTheyStood (prohibits t q a) o)
   moved-ordering q a o h f = ordering-together q (s .go q a) (moved asTheyStood (prohibits t q a) o) (inside-parts s q a h .1) (λ i. moved-occurs asTheyStood stood-rearranges (prohibits t q a) i o ∙ f i)
 
   -- what an ordering holds
@@ -105,7 +106,8 @@ module _ (t : Table) where
   satisfied-along w q i = ap₂ (λ (b c : Bool). not b && c) (any-map (λ m. m .prohibited i) (λ x. marksOf t (x .from) (x .by)) (passFrom s q w)) (any-map (λ m. m .required i) (λ x. marksOf t (x .from) (x .by)) (passFrom s q w))
 
   -- a transition of a walk from q that leads back to q is an inside transition of q's component
-  walk-met : (b : ℕ → ℕ → Bool) (o : ℕ) {q : ℕ} {w : List ℕ} {y : ℕ} → q < s .states → Leads s o q → Path s q w y → Leads s y o → any (λ x. b (x .from) (x .by)) (passFrom s q w) ≡ true → Met s b o
+  walk-met : (b : ℕ → ℕ → Bool) (o : ℕ) {q : ℕ} {w : List ℕ} {y : ℕ} → q < s .states → Leads s o q → Path s q w y → Leads s y o
+      → any (λ x. b (x .from) (x .by)) (passFrom s q w) ≡ true → Met s b o
   walk-met b o is-state out here back h = absurd (false≢true h)
   walk-met b o {q} is-state out (step {a = a} {w = w} l n r) back h =
       or-cases (b q a) (any (λ x. b (x .from) (x .by)) (passFrom s (s .go q a) w)) h
@@ -125,7 +127,8 @@ module _ (t : Table) where
       met-view s (λ x b. requires t x b i) q .1 (walk-met (λ x b. requires t x b i) q (closed-state p) ([], here) p ([], here) (r .1))
 
   -- some pair of an ordering is satisfied exactly if the table is
-  some-satisfied : (q a : ℕ) (w o : List ℕ) → Path s q (a ∷ w) q → IsOrdering t q o → any (satisfied (marksAlong q (a ∷ w))) o ≡ satisfies t (passFrom s q (a ∷ w))
+  some-satisfied : (q a : ℕ) (w o : List ℕ) → Path s q (a ∷ w) q → IsOrdering t q o
+      → any (satisfied (marksAlong q (a ∷ w))) o ≡ satisfies t (passFrom s q (a ∷ w))
   some-satisfied q a w o p f = bool-ext (any (satisfied ms) o) (satisfies t xs) of-record of-table
     where
       ms : List Marks

@@ -31,7 +31,8 @@ module _ (e : ℕ → ℕ → Bool) where
   via-through k p q g h = or-right (via e k p q) (via e k p k && via e k k q) (and-both (via e k p k) (via e k k q) g h)
 
   -- the two ways of a chain that may pass through k: not at all, or to k and from k on
-  via-split : {C : Type 0} (k p q : ℕ) → via e (suc k) p q ≡ true → (via e k p q ≡ true → C) → (via e k p k ≡ true → via e k k q ≡ true → C) → C
+  via-split : {C : Type 0} (k p q : ℕ) → via e (suc k) p q ≡ true → (via e k p q ≡ true → C) → (via e k p k ≡ true → via e k k q ≡ true → C)
+      → C
   via-split k p q h f g = or-cases (via e k p q) (via e k p k && via e k k q) h f (λ b. let r = and-parts (via e k p k) (via e k k q) b in g (r .0) (r .1))
 
   pub via-join : (k p x q : ℕ) → x < k → via e k p x ≡ true → via e k x q ≡ true → via e k p q ≡ true
@@ -47,7 +48,8 @@ module _ (e : ℕ → ℕ → Bool) where
           (λ px. via-split k x q h (λ xq. or-left (via e k p q) (via e k p k && via e k k q) (join p q px xq)) (λ xk kq. via-through k p q (join p k px xk) kq))
           (λ pk kx. via-split k x q h (λ xq. via-through k p q pk (join k q kx xq)) (λ xk kq. via-through k p q pk kq))
 
-  pub via-least : (P : ℕ → ℕ → Type 0) → ((p q : ℕ) → e p q ≡ true → P p q) → ((p x q : ℕ) → P p x → P x q → P p q) → (k p q : ℕ) → via e k p q ≡ true → P p q
+  pub via-least : (P : ℕ → ℕ → Type 0) → ((p q : ℕ) → e p q ≡ true → P p q) → ((p x q : ℕ) → P p x → P x q → P p q) → (k p q : ℕ)
+      → via e k p q ≡ true → P p q
   via-least P link join zero p q h = link p q h
   via-least P link join (suc k) p q h = via-split k p q h (λ a. via-least P link join k p q a) (λ a b. join p k q (via-least P link join k p k a) (via-least P link join k k q b))
 

@@ -74,7 +74,8 @@ module _ (s : System) where
   goes-path {q} n here = rw zero-add
   goes-path {p} {q} n (step {a = a} {w = w} l t r) = rw (lt-leb (s .states) (s .go p a) t) (goes-path (suc n) r ∙ ap (standing false q) (omega arith))
 
-  pub goes-stop : {p : ℕ} {w : List ℕ} (n : ℕ) (x : Stop s p w) → goesBy s (standing false p n) w ≡ standing true (x .place) (length (x .before) + n)
+  pub goes-stop : {p : ℕ} {w : List ℕ} (n : ℕ) (x : Stop s p w)
+      → goesBy s (standing false p n) w ≡ standing true (x .place) (length (x .before) + n)
   goes-stop {p} {w} n x =
       ap (goesBy s (standing false p n)) (sym (x .piece)) ∙ goes-append (x .before) (x .next ∷ x .later) (standing false p n)
       ∙ ap (λ (z : At). goesBy s z (x .next ∷ x .later)) (goes-path n (x .path)) ∙ halted
@@ -97,7 +98,8 @@ module _ (s : System) where
   path-or-stop {p} {w} a x = true≢false (ap (λ (z : At). z .stopped) (sym (goes-stop 0 x) ∙ goes-path 0 a))
 
   -- a run that stopped stays where it stopped, however much of the word follows
-  stop-longer : {p : ℕ} {w : List ℕ} (v : List ℕ) (x : Stop s p w) → goesBy s (standing false p 0) (w ++ v) ≡ goesBy s (standing false p 0) w
+  stop-longer : {p : ℕ} {w : List ℕ} (v : List ℕ) (x : Stop s p w)
+      → goesBy s (standing false p 0) (w ++ v) ≡ goesBy s (standing false p 0) w
   stop-longer {p} {w} v x = goes-append w v (standing false p 0) ∙ ap (λ (z : At). goesBy s z v) (goes-stop 0 x) ∙ goes-stopped v (x .place) (length (x .before) + 0) ∙ sym (goes-stop 0 x)
 
   pub pass-append : (u v : List ℕ) (p : ℕ) → passFrom s p (u ++ v) ≡ passFrom s p u ++ passFrom s (follow u p) v
@@ -172,16 +174,19 @@ module _ (s : System) where
       turns-intro (suc w) p (suc k) h t = takes-more w p ∙ or-right (takes p) (any b (passFrom s (follow l p) (repeated w l))) (turns-intro w (follow l p) k (omega arith) (rw (iter-shift (follow l) k p) t))
 
       -- from a repetition that begins where it begins again d later, d repetitions or more take exactly what recurs
-      turns-window : (p i d w : ℕ) → 0 < d → d ≤ w → turn d (turn i p) ≡ turn i p → Recur (follow l) takes p ↔ (any b (passFrom s (turn i p) (repeated w l)) ≡ true)
+      turns-window : (p i d w : ℕ) → 0 < d → d ≤ w → turn d (turn i p) ≡ turn i p
+          → Recur (follow l) takes p ↔ (any b (passFrom s (turn i p) (repeated w l)) ≡ true)
       turns-window p i d w some wide round =
           let v = window (follow l) takes p i d w some wide round in
           (λ h. let r = v .0 h in turns-intro w (turn i p) (r .0) (r .1) (r .2), λ h. v .1 (turns-find w (turn i p) h))
 
       -- the computed recurring transitions
-      pub takes-recurring : {p : ℕ} (st : Steady p) → Recur (follow l) takes p ↔ (any b (passFrom s (turn (s .states) p) (repeated (s .states) l)) ≡ true)
+      pub takes-recurring : {p : ℕ} (st : Steady p)
+          → Recur (follow l) takes p ↔ (any b (passFrom s (turn (s .states) p) (repeated (s .states) l)) ≡ true)
       takes-recurring {p} st = let e = st .early in turns-window p (s .states) (st .period) (s .states) (st .some) (omega arith) (round-later (follow l) (st .period) (st .begin) (s .states) p (omega arith) (st .round))
 
-    recurring-window : {p : ℕ} (st : Steady p) (i d w : ℕ) → 0 < d → d ≤ w → turn d (turn i p) ≡ turn i p → SameSet (passFrom s (turn (s .states) p) (repeated (s .states) l)) (passFrom s (turn i p) (repeated w l))
+    recurring-window : {p : ℕ} (st : Steady p) (i d w : ℕ) → 0 < d → d ≤ w → turn d (turn i p) ≡ turn i p
+        → SameSet (passFrom s (turn (s .states) p) (repeated (s .states) l)) (passFrom s (turn i p) (repeated w l))
     recurring-window {p} st i d w some wide round b =
         let r = takes-recurring b st in
         let v = turns-window b p i d w some wide round in
@@ -201,14 +206,16 @@ module _ (s : System) where
     pub endless-path : (e : Endless q lead l) (r : ℕ) → Path s q (lead ++ repeated r l) (turn l r (e .entry))
     endless-path e r = path-append s (e .path) (steady-path l (e .on) r)
 
-    pub endless-settled : (e : Endless q lead l) → settled s q lead l ≡ standing false (turn l (s .states) (e .entry)) (length (lead ++ repeated (s .states) l) + 0)
+    pub endless-settled : (e : Endless q lead l)
+        → settled s q lead l ≡ standing false (turn l (s .states) (e .entry)) (length (lead ++ repeated (s .states) l) + 0)
     endless-settled e = goes-path 0 (endless-path e (s .states))
 
     pub endless-meets-none : Endless q lead l → (i : ℕ) → MeetsMissing s q lead l i → ⊥
     endless-meets-none e i m = path-or-stop (endless-path e (m .repetitions)) (m .stop)
 
     -- a run that stops does so at one place, however many repetitions are looked at
-    stop-same : (n : ℕ) → Stop s q (lead ++ repeated n l) → {i : ℕ} (m : MeetsMissing s q lead l i) → goesBy s (standing false q 0) (lead ++ repeated n l) ≡ standing true (m .stop .place) (length (m .stop .before) + 0)
+    stop-same : (n : ℕ) → Stop s q (lead ++ repeated n l) → {i : ℕ} (m : MeetsMissing s q lead l i)
+        → goesBy s (standing false q 0) (lead ++ repeated n l) ≡ standing true (m .stop .place) (length (m .stop .before) + 0)
     stop-same n x m =
         let r = m .repetitions in
         sym (stop-longer (repeated r l) x) ∙ ap (goesBy s (standing false q 0)) (word-more n r ∙ ap (λ (z : ℕ). lead ++ repeated z l) (add-comm n r) ∙ sym (word-more r n)) ∙ stop-longer (repeated n l) (m .stop) ∙ goes-stop 0 (m .stop)
@@ -223,7 +230,8 @@ module _ (s : System) where
           endless : Endless q lead l → ((settled s q lead l .stopped ≡ true) × (settled s q lead l .read ≡ i)) ↔ MeetsMissing s q lead l i
           endless e = (λ h. clash (h .0) (ap (λ (z : At). z .stopped) (endless-settled e)), λ m. absurd (endless-meets-none e i m))
 
-          stopped : Stop s q (lead ++ repeated (s .states) l) → ((settled s q lead l .stopped ≡ true) × (settled s q lead l .read ≡ i)) ↔ MeetsMissing s q lead l i
+          stopped : Stop s q (lead ++ repeated (s .states) l)
+              → ((settled s q lead l .stopped ≡ true) × (settled s q lead l .read ≡ i)) ↔ MeetsMissing s q lead l i
           stopped x =
               let at-x = goes-stop 0 x in (
                 λ h. record { repetitions = s .states; stop = x; count = omega (arith, h .1, ap (λ (z : At). z .read) at-x) },
@@ -284,8 +292,10 @@ module _ (s : System) where
           λ h. ap (any (isTaken x)) endless-recurring ∙ v .0 (λ r. let k = h r in (k .0, k .1, taken-view (k .0) x .0 (k .2))),
         )
 
-    pub endless-window : (i d w : ℕ) → 0 < d → d ≤ w → turn l d (turn l i (e .entry)) ≡ turn l i (e .entry) → SameSet (recurring s q lead l) (passFrom s (turn l i (e .entry)) (repeated w l))
+    pub endless-window : (i d w : ℕ) → 0 < d → d ≤ w → turn l d (turn l i (e .entry)) ≡ turn l i (e .entry)
+        → SameSet (recurring s q lead l) (passFrom s (turn l i (e .entry)) (repeated w l))
     endless-window i d w some wide round b = ap (any b) endless-recurring ∙ recurring-window l (e .on) i d w some wide round b
 
-  pub recurs-view : (q : ℕ) (lead l : List ℕ) → q < s .states → strayLetter (s .letters) lead ≡ false → strayLetter (s .letters) l ≡ false → settled s q lead l .stopped ≡ false → (x : Taken) → (any (isTaken x) (recurring s q lead l) ≡ true) ↔ Recurs s q lead l x
+  pub recurs-view : (q : ℕ) (lead l : List ℕ) → q < s .states → strayLetter (s .letters) lead ≡ false → strayLetter (s .letters) l ≡ false
+      → settled s q lead l .stopped ≡ false → (x : Taken) → (any (isTaken x) (recurring s q lead l) ≡ true) ↔ Recurs s q lead l x
   recurs-view q lead l b lead-ok l-ok going x = ⊎-elim (λ e. endless-recurs q lead l e x) (λ y. clash (ap (λ (z : At). z .stopped) (goes-stop 0 y)) going) (run-view q lead l b lead-ok l-ok)

@@ -16,11 +16,13 @@ module _ {M : Type 0} (s : System) (k : Keeper M) (r : Row M) (a : ℕ) where
   unfolding stepOf
   step-missing h = rw (le-leb (s .states) (s .go (r .source) a) h)
 
-  pub step-inside : s .go (r .source) a < s .states → isInside s (r .source) a ≡ true → stepOf s k r a ≡ record { there = true; to = row (s .go (r .source) a) (k .move (r .source) a (r .memory)); prio = k .prio (r .source) a (r .memory) }
+  pub step-inside : s .go (r .source) a < s .states → isInside s (r .source) a ≡ true
+      → stepOf s k r a ≡ record { there = true; to = row (s .go (r .source) a) (k .move (r .source) a (r .memory)); prio = k .prio (r .source) a (r .memory) }
   unfolding stepOf
   step-inside h i = rw (lt-leb (s .states) (s .go (r .source) a) h, i)
 
-  pub step-crossing : s .go (r .source) a < s .states → isInside s (r .source) a ≡ false → stepOf s k r a ≡ record { there = true; to = row (s .go (r .source) a) (k .enter (s .go (r .source) a)); prio = 1 }
+  pub step-crossing : s .go (r .source) a < s .states → isInside s (r .source) a ≡ false
+      → stepOf s k r a ≡ record { there = true; to = row (s .go (r .source) a) (k .enter (s .go (r .source) a)); prio = 1 }
   unfolding stepOf
   step-crossing h i = rw (lt-leb (s .states) (s .go (r .source) a) h, i)
 
@@ -33,7 +35,8 @@ module _ {M : Type 0} (s : System) (k : Keeper M) (r : Row M) (a : ℕ) where
   pub step-present : stepOf s k r a .there ≡ true → s .go (r .source) a < s .states
   step-present t = by (leb (s .states) (s .go (r .source) a)) (λ e. clash t (ap (λ (x : Step (Row M)). x .there) (step-missing (leb-true (s .states) (s .go (r .source) a) e)))) (λ e. leb-false (s .states) (s .go (r .source) a) e)
 
-pub plan-same : {M : Type 0} (s : System) (start : ℕ) (k : Keeper M) → ((m m′ : M) → k .same m m′ ≡ true → m ≡ m′) → ((m : M) → k .same m m ≡ true) → SameIsEqual (planOf s start k)
+pub plan-same : {M : Type 0} (s : System) (start : ℕ) (k : Keeper M) → ((m m′ : M) → k .same m m′ ≡ true → m ≡ m′)
+    → ((m : M) → k .same m m ≡ true) → SameIsEqual (planOf s start k)
 plan-same s start k equal self =
     record {
       equal = λ x y h. let r = and-parts (eqb (x .source) (y .source)) (k .same (x .memory) (y .memory)) h in ap₂ row (eqb-true (x .source) (y .source) (r .0)) (equal (x .memory) (y .memory) (r .1));

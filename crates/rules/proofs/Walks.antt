@@ -12,7 +12,8 @@ use Rattle.rules.specs.Systems.{System, Path, here, step}
 use Rattle.rules.specs.Runs.{Taken, passFrom, goesFrom, endOf, isClosedWalk}
 use Rattle.rules.proofs.Bools.{clash, and-parts}
 
-walk-path : (s : System) (xs : List Taken) (p : ℕ) → goesFrom s p xs ≡ true → (w : List ℕ) × (xs ≡ passFrom s p w) × Path s p w (endOf s p xs)
+walk-path : (s : System) (xs : List Taken) (p : ℕ) → goesFrom s p xs ≡ true
+    → (w : List ℕ) × (xs ≡ passFrom s p w) × Path s p w (endOf s p xs)
 walk-path s [] p h = ([], refl, here)
 walk-path s (x ∷ xs) p h =
     let y = s .go (x .from) (x .by) in

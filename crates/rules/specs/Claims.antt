@@ -45,9 +45,11 @@ abbrev pub translated : List ℕ → ℕ → Bool
 translated bs c = eqb (tableFault bs) 0 && (leb 1 c && (leb c maxRows && not (exceeds bs c)))
 
 pub record Agrees (bs : List ℕ) (n : ℕ) (ts ps ss : List ℕ) : Type 0 where
-  pub words : (lead l : List ℕ) → 0 < length l → strayLetter (tableOf bs .letters) lead ≡ false → strayLetter (tableOf bs .letters) l ≡ false → parityRun n (tableOf bs .letters) ts ps lead l ≡ rabinRun (tableOf bs) lead l
+  pub words : (lead l : List ℕ) → 0 < length l → strayLetter (tableOf bs .letters) lead ≡ false
+      → strayLetter (tableOf bs .letters) l ≡ false → parityRun n (tableOf bs .letters) ts ps lead l ≡ rabinRun (tableOf bs) lead l
   pub judges : (lead l : List ℕ) → parityJudge n (tableOf bs .letters) ts ps lead l ≡ rabinJudge bs lead l
-  pub walks : (xs : List Taken) → isClosedWalk (paritySystem n (tableOf bs .letters) ts) xs ≡ true → (parityGood (tableOf bs .letters) ps xs ≡ true) ↔ (satisfies (tableOf bs) (projected ss xs) ≡ true)
+  pub walks : (xs : List Taken) → isClosedWalk (paritySystem n (tableOf bs .letters) ts) xs ≡ true
+      → (parityGood (tableOf bs .letters) ps xs ≡ true) ↔ (satisfies (tableOf bs) (projected ss xs) ≡ true)
 
 abbrev pub Demands : Type 0
 Demands = (bs : List ℕ) (c : ℕ) → translated bs c ≡ true → (a b d : List ℕ) → Agrees bs (length (tableRows bs c)) (targets bs c ++ a) (priorities bs c ++ b) (sourceStates bs c ++ d)

@@ -34,9 +34,13 @@ pub record Lawful {M : Type 0} (s : System) (k : Keeper M) (good : List Taken �
   -- the condition looks at which transitions there are, and not at how often or in what order
   pub set-only : (xs ys : List Taken) → SameSet xs ys → good xs ≡ good ys
   -- a closed walk that carries the memory back to itself has an even largest priority exactly if it satisfies the condition
-  pub loop : (q : ℕ) (m : M) (a : ℕ) (w : List ℕ) → Path s q (a ∷ w) q → Fits q m → memoryAfter s k q m (a ∷ w) ≡ m → isEven (largestAlong s k q m (a ∷ w)) ≡ good (passFrom s q (a ∷ w))
+  pub loop : (q : ℕ) (m : M) (a : ℕ) (w : List ℕ) → Path s q (a ∷ w) q → Fits q m → memoryAfter s k q m (a ∷ w) ≡ m
+      → isEven (largestAlong s k q m (a ∷ w)) ≡ good (passFrom s q (a ∷ w))
 
 pub record Agree (s : System) (start : ℕ) (good : List Taken → Bool) (n : ℕ) (ts ps ss : List ℕ) : Type 0 where
-  pub words : (lead l : List ℕ) → 0 < length l → strayLetter (s .letters) lead ≡ false → strayLetter (s .letters) l ≡ false → judgedBy (paritySystem n (s .letters) ts) 0 lead l (parityGood (s .letters) ps) ≡ judgedBy s start lead l good
-  pub judges : (lead l : List ℕ) → parityJudge n (s .letters) ts ps lead l ≡ unlessRefused (wordFault (s .letters) lead l) (judgedBy s start lead l good)
-  pub walks : (xs : List Taken) → isClosedWalk (paritySystem n (s .letters) ts) xs ≡ true → parityGood (s .letters) ps xs ≡ good (projected ss xs)
+  pub words : (lead l : List ℕ) → 0 < length l → strayLetter (s .letters) lead ≡ false → strayLetter (s .letters) l ≡ false
+      → judgedBy (paritySystem n (s .letters) ts) 0 lead l (parityGood (s .letters) ps) ≡ judgedBy s start lead l good
+  pub judges : (lead l : List ℕ)
+      → parityJudge n (s .letters) ts ps lead l ≡ unlessRefused (wordFault (s .letters) lead l) (judgedBy s start lead l good)
+  pub walks : (xs : List Taken) → isClosedWalk (paritySystem n (s .letters) ts) xs ≡ true
+      → parityGood (s .letters) ps xs ≡ good (projected ss xs)

@@ -97,7 +97,8 @@ pub record Discovered {A : Type 0} (g : Plan A) (rs : List A) (k : ℕ) : Type 0
   pub is-letter : by-letter < g .letters
   pub there : g .step (rowAt g rs by-row) by-letter .there ≡ true
   pub found : g .step (rowAt g rs by-row) by-letter .to ≡ rowAt g rs k
-  pub nothing-new : (j b : ℕ) → Earlier j b by-row by-letter → b < g .letters → g .step (rowAt g rs j) b .there ≡ true → numberOf g (g .step (rowAt g rs j) b .to) rs < k
+  pub nothing-new : (j b : ℕ) → Earlier j b by-row by-letter → b < g .letters → g .step (rowAt g rs j) b .there ≡ true
+      → numberOf g (g .step (rowAt g rs j) b .to) rs < k
 
 -- the arrays
 abbrev pub targetNumber : {A : Type 0} → Plan A → ℕ → List A → A → ℕ → ℕ
