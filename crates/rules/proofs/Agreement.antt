@@ -43,7 +43,17 @@ module _ (P S : System) (f : ℕ → ℕ) (sim : Projects P S f) where
       step (rw (sim .same-letters) at l) (sim .present p a b l t) rest
 
   pub stop-projects : {p : ℕ} {w : List ℕ} → p < P .states → Stop P p w → Stop S (f p) w
-  stop-projects b x = record { before = x .before; next = x .next; later = x .later; place = f (x .place); piece = x .piece; path = path-projects b (x .path); letter = rw (sim .same-letters) at (x .letter); absent = sim .missing (x .place) (x .next) (path-below P b (x .path)) (x .letter) (x .absent) }
+  stop-projects b x =
+      record {
+        before = x .before;
+        next = x .next;
+        later = x .later;
+        place = f (x .place);
+        piece = x .piece;
+        path = path-projects b (x .path);
+        letter = rw (sim .same-letters) at (x .letter);
+        absent = sim .missing (x .place) (x .next) (path-below P b (x .path)) (x .letter) (x .absent);
+      }
 
   module _
       (goodP goodS : List Taken → Bool)
@@ -90,7 +100,11 @@ module _ (P S : System) (f : ℕ → ℕ) (sim : Projects P S f) where
           l-ok′ = rw (sim .same-letters) at l-ok
 
           endless : Endless P p lead l → judgedBy P p lead l goodP ≡ judgedBy S (f p) lead l goodS
-          endless e = ⊎-elim (λ g. judged-endless P p lead l goodP e ∙ ap (λ (z : Bool). pick z accepts rejects) (recurring-agree e g) ∙ sym (judged-endless S (f p) lead l goodS g)) (λ x. absurd (path-or-stop S (path-projects b (endless-path P p lead l e (S .states))) x)) (run-view S (f p) lead l (sim .state p b) lead-ok′ l-ok′)
+          endless e =
+              ⊎-elim
+              (λ g. judged-endless P p lead l goodP e ∙ ap (λ (z : Bool). pick z accepts rejects) (recurring-agree e g) ∙ sym (judged-endless S (f p) lead l goodS g))
+              (λ x. absurd (path-or-stop S (path-projects b (endless-path P p lead l e (S .states))) x))
+              (run-view S (f p) lead l (sim .state p b) lead-ok′ l-ok′)
 
           stopped : Stop P p (lead ++ repeated (P .states) l) → judgedBy P p lead l goodP ≡ judgedBy S (f p) lead l goodS
           stopped x =

@@ -34,7 +34,11 @@ module _ (p : ℕ → Bool) where
 
   pub kept-occurs : (x : ℕ) (o : List ℕ) → occurs x (keep p o) + occurs x (others o) ≡ occurs x o
   kept-occurs x [] = refl
-  kept-occurs x (i ∷ o) = by (p i) (λ e. rw e (by (eqb x i) (λ f. rw f (omega (arith, kept-occurs x o))) (λ f. rw f (kept-occurs x o)))) (λ e. rw e (by (eqb x i) (λ f. rw f (omega (arith, kept-occurs x o))) (λ f. rw f (kept-occurs x o))))
+  kept-occurs x (i ∷ o) =
+      by
+      (p i)
+      (λ e. rw e (by (eqb x i) (λ f. rw f (omega (arith, kept-occurs x o))) (λ f. rw f (kept-occurs x o))))
+      (λ e. rw e (by (eqb x i) (λ f. rw f (omega (arith, kept-occurs x o))) (λ f. rw f (kept-occurs x o))))
 
   pub keep-append : (o o′ : List ℕ) → keep p (o ++ o′) ≡ keep p o ++ keep p o′
   keep-append [] o′ = refl
@@ -51,15 +55,24 @@ module _ (p : ℕ → Bool) where
   -- where nothing is dropped nothing was picked
   pub others-lose-none : (o : List ℕ) → length o ≤ length (others o) → any p o ≡ false
   others-lose-none [] h = refl
-  others-lose-none (i ∷ o) h = by (p i) (λ e. absurd (omega (arith, rw e at h, kept-length o))) (λ e. rw e (others-lose-none o (omega (arith, rw e at h))))
+  others-lose-none (i ∷ o) h =
+      by (p i) (λ e. absurd (omega (arith, rw e at h, kept-length o))) (λ e. rw e (others-lose-none o (omega (arith, rw e at h))))
 
   pub keep-free : (x : ℕ) (o : List ℕ) → p x ≡ false → isIn x (keep p o) ≡ false
   keep-free x [] h = refl
-  keep-free x (i ∷ o) h = by (p i) (λ e. rw e (by (eqb x i) (λ f. clash e (rw (eqb-true x i f) at h)) (λ f. rw (f, keep-free x o h)))) (λ e. rw e (keep-free x o h))
+  keep-free x (i ∷ o) h =
+      by
+      (p i)
+      (λ e. rw e (by (eqb x i) (λ f. clash e (rw (eqb-true x i f) at h)) (λ f. rw (f, keep-free x o h))))
+      (λ e. rw e (keep-free x o h))
 
   pub keep-hold : (x : ℕ) (o : List ℕ) → p x ≡ true → isIn x (keep p o) ≡ isIn x o
   keep-hold x [] h = refl
-  keep-hold x (i ∷ o) h = by (p i) (λ e. rw e (rw (keep-hold x o h))) (λ e. rw e (by (eqb x i) (λ f. clash h (rw (← eqb-true x i f) at e)) (λ f. rw f (keep-hold x o h))))
+  keep-hold x (i ∷ o) h =
+      by
+      (p i)
+      (λ e. rw e (rw (keep-hold x o h)))
+      (λ e. rw e (by (eqb x i) (λ f. clash h (rw (← eqb-true x i f) at e)) (λ f. rw f (keep-hold x o h))))
 
 -- ---- what stands behind a pair
 abbrev pub after : ℕ → List ℕ → List ℕ
@@ -76,7 +89,11 @@ after-append x (i ∷ o) o′ h = let r = or-none (eqb x i) (isIn x o) h in rw (
 
 after-others : (p : ℕ → Bool) (x : ℕ) (o : List ℕ) → p x ≡ false → after x (keep (λ i. not (p i)) o) ≡ keep (λ i. not (p i)) (after x o)
 after-others p x [] h = refl
-after-others p x (i ∷ o) h = by (p i) (λ e. rw e (by (eqb x i) (λ f. clash e (rw (eqb-true x i f) at h)) (λ f. rw f (after-others p x o h)))) (λ e. rw e (by (eqb x i) (λ f. rw f) (λ f. rw f (after-others p x o h))))
+after-others p x (i ∷ o) h =
+    by
+    (p i)
+    (λ e. rw e (by (eqb x i) (λ f. clash e (rw (eqb-true x i f) at h)) (λ f. rw f (after-others p x o h))))
+    (λ e. rw e (by (eqb x i) (λ f. rw f) (λ f. rw f (after-others p x o h))))
 
 pub occurs-none : (x : ℕ) (o : List ℕ) → occurs x o ≡ 0 → isIn x o ≡ false
 occurs-none x [] h = refl
@@ -96,7 +113,11 @@ record SeenFrom (q r : ℕ) (required : Bool) : Type 0 where
   not-below : required ≡ true → 2 * q ≤ r
 
 seen-max : {q a b : ℕ} {f g : Bool} → SeenFrom q a f → SeenFrom q b g → SeenFrom q (max a b) (f || g)
-seen-max {q} {a} {b} {f} {g} s t = record { even-or-below = by (leb a b) (λ e. let z : max a b ≡ b = omega (arith, leb-true a b e) in rw z (t .even-or-below)) (λ e. let z : max a b ≡ a = omega (arith, leb-false a b e) in rw z (s .even-or-below)); not-below = λ h. or-cases f g h (λ e. omega (arith, s .not-below e)) (λ e. omega (arith, t .not-below e)) }
+seen-max {q} {a} {b} {f} {g} s t =
+    record {
+      even-or-below = by (leb a b) (λ e. let z : max a b ≡ b = omega (arith, leb-true a b e) in rw z (t .even-or-below)) (λ e. let z : max a b ≡ a = omega (arith, leb-false a b e) in rw z (s .even-or-below));
+      not-below = λ h. or-cases f g h (λ e. omega (arith, s .not-below e)) (λ e. omega (arith, t .not-below e));
+    }
 
 isIn-drop : (x k : ℕ) (o : List ℕ) → isIn x (drop k o) ≡ true → isIn x o ≡ true
 isIn-drop x zero o h = h
@@ -121,8 +142,11 @@ module _ (m : Marks) where
 
   scan-last : (u : List ℕ) (i : ℕ) (v : List ℕ) (p best : ℕ) → marked i ≡ true → any marked v ≡ false
       → priorityFrom p m (u ++ (i ∷ v)) best ≡ pick (m .prohibited i) (suc (2 * (p + length u))) (2 * (p + length u))
-  scan-last [] i v p best h q = scan-quiet v (suc p) _ q ∙ by (m .prohibited i) (λ e. rw e (omega arith)) (λ e. let f = rw e at h in rw (e, f) (omega arith))
-  scan-last (j ∷ u) i v p best h q = let e : suc p + length u ≡ p + suc (length u) = omega arith in scan-last u i v (suc p) _ h q ∙ ap (λ (n : ℕ). pick (m .prohibited i) (suc (2 * n)) (2 * n)) e
+  scan-last [] i v p best h q =
+      scan-quiet v (suc p) _ q ∙ by (m .prohibited i) (λ e. rw e (omega arith)) (λ e. let f = rw e at h in rw (e, f) (omega arith))
+  scan-last (j ∷ u) i v p best h q =
+      let e : suc p + length u ≡ p + suc (length u) = omega arith in
+      scan-last u i v (suc p) _ h q ∙ ap (λ (n : ℕ). pick (m .prohibited i) (suc (2 * n)) (2 * n)) e
 
   -- document 01's rule: the last marked pair decides, and there may be none
   pub priority-none : (o : List ℕ) → any marked o ≡ false → priority m o ≡ 1
@@ -137,7 +161,8 @@ module _ (m : Marks) where
   found p i best = pick (m .prohibited i) (suc (2 * p)) (pick (m .required i) (2 * p) best)
 
   found-bounds : (p i best : ℕ) → best < 2 * p → (best ≤ found p i best) × (found p i best < 2 * suc p)
-  found-bounds p i best h = by (m .prohibited i) (λ e. rw e (omega arith)) (λ e. rw e (by (m .required i) (λ f. rw f (omega arith)) (λ f. rw f (omega arith))))
+  found-bounds p i best h =
+      by (m .prohibited i) (λ e. rw e (omega arith)) (λ e. rw e (by (m .required i) (λ f. rw f (omega arith)) (λ f. rw f (omega arith))))
 
   pub scan-keeps : (o : List ℕ) (p best : ℕ) → best < 2 * p → best ≤ priorityFrom p m o best
   scan-keeps [] p best h = omega arith
@@ -145,21 +170,35 @@ module _ (m : Marks) where
 
   pub scan-result : (o : List ℕ) (p best : ℕ) → best < 2 * p → (priorityFrom p m o best ≡ best) ⊎ (2 * p ≤ priorityFrom p m o best)
   scan-result [] p best h = inl refl
-  scan-result (i ∷ o) p best h = by (m .prohibited i) (λ e. rw e (inr (omega (arith, scan-keeps o (suc p) (suc (2 * p)) (omega arith))))) (λ e. rw e (by (m .required i) (λ f. rw f (inr (scan-keeps o (suc p) (2 * p) (omega arith)))) (λ f. rw f (⊎-elim inl (λ g. inr (omega arith)) (scan-result o (suc p) best (omega arith))))))
+  scan-result (i ∷ o) p best h =
+      by
+      (m .prohibited i)
+      (λ e. rw e (inr (omega (arith, scan-keeps o (suc p) (suc (2 * p)) (omega arith)))))
+      (λ e. rw e (by (m .required i) (λ f. rw f (inr (scan-keeps o (suc p) (2 * p) (omega arith)))) (λ f. rw f (⊎-elim inl (λ g. inr (omega arith)) (scan-result o (suc p) best (omega arith))))))
 
   -- a result of at most 2(p + k): nothing is prohibited from the k-th on
   pub scan-none-prohibited : (o : List ℕ) (p k best : ℕ) → best < 2 * p → priorityFrom p m o best ≤ 2 * (p + k)
       → any (m .prohibited) (drop k o) ≡ false
   scan-none-prohibited [] p zero best b h = refl
   scan-none-prohibited [] p (suc k) best b h = refl
-  scan-none-prohibited (i ∷ o) p zero best b h = let f = found-bounds p i best b in by (m .prohibited i) (λ e. absurd (omega (arith, rw e at h, scan-keeps o (suc p) (suc (2 * p)) (omega arith)))) (λ e. rw e (scan-none-prohibited o (suc p) zero (found p i best) (f .1) (omega arith)))
-  scan-none-prohibited (i ∷ o) p (suc k) best b h = scan-none-prohibited o (suc p) k (found p i best) (found-bounds p i best b .1) (omega arith)
+  scan-none-prohibited (i ∷ o) p zero best b h =
+      let f = found-bounds p i best b in
+      by
+      (m .prohibited i)
+      (λ e. absurd (omega (arith, rw e at h, scan-keeps o (suc p) (suc (2 * p)) (omega arith))))
+      (λ e. rw e (scan-none-prohibited o (suc p) zero (found p i best) (f .1) (omega arith)))
+  scan-none-prohibited (i ∷ o) p (suc k) best b h =
+      scan-none-prohibited o (suc p) k (found p i best) (found-bounds p i best b .1) (omega arith)
 
   -- a result of 2(p + k): something is required from the k-th on
   pub scan-some-required : (o : List ℕ) (p k best : ℕ) → best < 2 * p → priorityFrom p m o best ≡ 2 * (p + k)
       → any (m .required) (drop k o) ≡ true
   scan-some-required [] p k best b h = absurd (omega arith)
-  scan-some-required (i ∷ o) p zero best b h = by (m .prohibited i) (λ e. absurd (omega (arith, rw e at h, scan-keeps o (suc p) (suc (2 * p)) (omega arith)))) (λ e. by (m .required i) (λ f. rw f) (λ f. let h′ = rw (e, f) at h in absurd (⊎-elim (λ (g : priorityFrom (suc p) m o best ≡ best). omega arith) (λ (g : 2 * suc p ≤ priorityFrom (suc p) m o best). omega arith) (scan-result o (suc p) best (omega arith)))))
+  scan-some-required (i ∷ o) p zero best b h =
+      by
+      (m .prohibited i)
+      (λ e. absurd (omega (arith, rw e at h, scan-keeps o (suc p) (suc (2 * p)) (omega arith))))
+      (λ e. by (m .required i) (λ f. rw f) (λ f. let h′ = rw (e, f) at h in absurd (⊎-elim (λ (g : priorityFrom (suc p) m o best ≡ best). omega arith) (λ (g : 2 * suc p ≤ priorityFrom (suc p) m o best). omega arith) (scan-result o (suc p) best (omega arith)))))
   scan-some-required (i ∷ o) p (suc k) best b h = scan-some-required o (suc p) k (found p i best) (found-bounds p i best b .1) (omega arith)
 
   -- nothing prohibited: the result is even, or what was found before
@@ -205,7 +244,8 @@ module _ (arr : List ℕ → List ℕ) (law : Rearranges arr) where
     moved-occurs x o = simp (occurs-append, law .same-occurs) (kept-occurs p x o)
 
     moved-holds : (x : ℕ) (o : List ℕ) → p x ≡ false → isIn x (moved arr p o) ≡ isIn x o
-    moved-holds x o h = any-append (λ y. eqb x y) (arr (keep p o)) (others p o) ∙ rw (arranged-free x o h) (keep-hold (λ i. not (p i)) x o (rw h))
+    moved-holds x o h =
+        any-append (λ y. eqb x y) (arr (keep p o)) (others p o) ∙ rw (arranged-free x o h) (keep-hold (λ i. not (p i)) x o (rw h))
 
     pub drop-moved : (k : ℕ) (o : List ℕ) → any p (drop k o) ≡ false → drop k (moved arr p o) ≡ drop k o
     drop-moved k o h = by (leb k (length o)) (λ e. within (leb-true k (length o) e)) (λ e. past (leb-false k (length o) e))
@@ -217,13 +257,20 @@ module _ (arr : List ℕ → List ℕ) (law : Rearranges arr) where
         front = arr (keep p o) ++ others p (take k o)
 
         tail-stays : others p o ≡ others p (take k o) ++ drop k o
-        tail-stays = ap (others p) (sym (take-append-drop k o)) ∙ keep-append (λ i. not (p i)) (take k o) (drop k o) ∙ ap (λ (z : List ℕ). others p (take k o) ++ z) (others-all p (drop k o) h)
+        tail-stays =
+            ap (others p) (sym (take-append-drop k o)) ∙ keep-append (λ i. not (p i)) (take k o) (drop k o)
+            ∙ ap (λ (z : List ℕ). others p (take k o) ++ z) (others-all p (drop k o) h)
 
         front-length : k ≤ length o → length front ≡ k
-        front-length l = simp length-append (omega (arith, law .same-length (keep p o), kept-length p o, simp (length-append, length-drop) at (ap length tail-stays)))
+        front-length l =
+            simp length-append
+            (omega (arith, law .same-length (keep p o), kept-length p o, simp (length-append, length-drop) at (ap length tail-stays)))
 
         within : k ≤ length o → drop k (moved arr p o) ≡ drop k o
-        within l = ap (λ (z : List ℕ). drop k (arr (keep p o) ++ z)) tail-stays ∙ ap (drop k) (sym (append-assoc (arr (keep p o)) (others p (take k o)) (drop k o))) ∙ drop-at front (drop k o) k (front-length l)
+        within l =
+            ap (λ (z : List ℕ). drop k (arr (keep p o) ++ z)) tail-stays
+            ∙ ap (drop k) (sym (append-assoc (arr (keep p o)) (others p (take k o)) (drop k o)))
+            ∙ drop-at front (drop k o) k (front-length l)
 
   -- ---- even: some pair of the tail at which the largest priority points is satisfied
   tail-free : (ms : List Marks) (o : List ℕ) (k : ℕ) → largestPriority arr ms o ≤ 2 * suc k → (x : ℕ) → isIn x (drop k o) ≡ true
@@ -288,4 +335,5 @@ module _ (arr : List ℕ → List ℕ) (law : Rearranges arr) where
 
   pub closed-walk : (m : Marks) (ms : List Marks) (o : List ℕ) → movedAlong arr (m ∷ ms) o ≡ o
       → isEven (largestPriority arr (m ∷ ms) o) ≡ any (satisfied (m ∷ ms)) o
-  closed-walk m ms o closed = bool-ext (isEven (largestPriority arr (m ∷ ms) o)) (any (satisfied (m ∷ ms)) o) (even-satisfied m ms o) (satisfied-even m ms o closed)
+  closed-walk m ms o closed =
+      bool-ext (isEven (largestPriority arr (m ∷ ms) o)) (any (satisfied (m ∷ ms)) o) (even-satisfied m ms o) (satisfied-even m ms o closed)

@@ -33,7 +33,9 @@ module _ {A B : Type 0} (h : A → List B) (m : ℕ) (even : (x : A) → length 
   pub joined-at : (xs : List A) (z : List B) (i a : ℕ) (d : B) (d′ : A) → i < length xs → a < m
       → getD (joined h xs ++ z) (cell m i a) d ≡ getD (h (getD xs i d′)) a d
   joined-at [] z i a d d′ l la = absurd (omega arith)
-  joined-at (x ∷ xs) z zero a d d′ l la = rw (append-assoc (h x) (joined h xs) z, zero-mul m) (ap (λ (n : ℕ). getD (h x ++ (joined h xs ++ z)) n d) (omega arith) ∙ List·getD-append (h x) (joined h xs ++ z) d a (omega (arith, even x)))
+  joined-at (x ∷ xs) z zero a d d′ l la =
+      rw (append-assoc (h x) (joined h xs) z, zero-mul m)
+      (ap (λ (n : ℕ). getD (h x ++ (joined h xs ++ z)) n d) (omega arith) ∙ List·getD-append (h x) (joined h xs ++ z) d a (omega (arith, even x)))
   joined-at (x ∷ xs) z (suc i) a d d′ l la =
       let e : cell m (suc i) a ≡ length (h x) + cell m i a = rw suc-mul (omega (arith, even x)) in
       rw (append-assoc (h x) (joined h xs) z, e) (getD-append-add (h x) (joined h xs ++ z) (cell m i a) d ∙ joined-at xs z i a d d′ (omega arith) la)
@@ -42,12 +44,14 @@ module _ {A B : Type 0} (h : A → List B) (m : ℕ) (even : (x : A) → length 
 pub tabulate-none : {B : Type 0} (b : B → Bool) (h : ℕ → B) (n i : ℕ) → ((a : ℕ) → i ≤ a → a < i + n → b (h a) ≡ false)
     → any b (tabulate n i h) ≡ false
 tabulate-none b h zero i f = refl
-tabulate-none b h (suc n) i f = rw (f i (omega arith) (omega arith)) (tabulate-none b h n (suc i) (λ a l u. f a (omega arith) (omega arith)))
+tabulate-none b h (suc n) i f =
+    rw (f i (omega arith) (omega arith)) (tabulate-none b h n (suc i) (λ a l u. f a (omega arith) (omega arith)))
 
 pub joined-none : {A B : Type 0} (b : B → Bool) (h : A → List B) (d : A) (xs : List A)
     → ((i : ℕ) → i < length xs → any b (h (getD xs i d)) ≡ false) → any b (joined h xs) ≡ false
 joined-none b h d [] f = refl
-joined-none b h d (x ∷ xs) f = any-append b (h x) (joined h xs) ∙ rw (f 0 (omega arith)) (joined-none b h d xs (λ i l. f (suc i) (omega arith)))
+joined-none b h d (x ∷ xs) f =
+    any-append b (h x) (joined h xs) ∙ rw (f 0 (omega arith)) (joined-none b h d xs (λ i l. f (suc i) (omega arith)))
 
 pub mapped-at : {A B : Type 0} (h : A → B) (xs : List A) (z : List B) (i : ℕ) (d : B) (d′ : A) → i < length xs
     → getD (map h xs ++ z) i d ≡ h (getD xs i d′)

@@ -37,169 +37,204 @@ use Rattle.rules.proofs.Steps.{step-missing, step-inside, step-crossing
 use Rattle.rules.proofs.Refusals.{TakenWord, taken-word, parity-none}
 
 -- ---- the rows
-module _ {M : Type 0} (s : System) (start : ℕ) (k : Keeper M) (good : List Taken → Bool) (Fits : ℕ → M → Type 0) (law : Lawful s k good Fits) (is-start : start < s .states) where
-  abbrev RowFits : Row M → Type 0
-  RowFits r = (r .source < s .states) × Fits (r .source) (r .memory)
+module _
+    {M : Type 0}
+    (s : System)
+    (start : ℕ)
+    (k : Keeper M)
+    (good : List Taken → Bool)
+    (Fits : ℕ → M → Type 0)
+    (law : Lawful s k good Fits)
+    (is-start : start < s .states)
+  where
+    abbrev RowFits : Row M → Type 0
+    RowFits r = (r .source < s .states) × Fits (r .source) (r .memory)
 
-  step-fits : (r : Row M) (a : ℕ) → a < s .letters → RowFits r → stepOf s k r a .there ≡ true → RowFits (stepOf s k r a .to)
-  step-fits r a l f t =
-      let h = step-present s k r a t in
-      let q = r .source in
-      by
-      (isInside s q a)
-      (λ i. rw (step-inside s k r a h i) (h, law .fits-move q a (r .memory) (f .0) l i (f .1)))
-      (λ i. rw (step-crossing s k r a h i) (h, law .fits-enter (s .go q a) h))
+    step-fits : (r : Row M) (a : ℕ) → a < s .letters → RowFits r → stepOf s k r a .there ≡ true → RowFits (stepOf s k r a .to)
+    step-fits r a l f t =
+        let h = step-present s k r a t in
+        let q = r .source in
+        by
+        (isInside s q a)
+        (λ i. rw (step-inside s k r a h i) (h, law .fits-move q a (r .memory) (f .0) l i (f .1)))
+        (λ i. rw (step-crossing s k r a h i) (h, law .fits-enter (s .go q a) h))
 
-  pub reached-fits : {r : Row M} → Reached (planOf s start k) r → RowFits r
-  reached-fits first-row = (is-start, law .fits-enter start is-start)
-  reached-fits (next-row {r = r} {a = a} h l t) = step-fits r a l (reached-fits h) t
+    pub reached-fits : {r : Row M} → Reached (planOf s start k) r → RowFits r
+    reached-fits first-row = (is-start, law .fits-enter start is-start)
+    reached-fits (next-row {r = r} {a = a} h l t) = step-fits r a l (reached-fits h) t
 
-module _ {M : Type 0} (s : System) (start : ℕ) (k : Keeper M) (good : List Taken → Bool) (Fits : ℕ → M → Type 0) (law : Lawful s k good Fits) (is-start : start < s .states) (c : ℕ) (not-full : isFull (planOf s start k) c ≡ false) (within : c ≤ maxRows) where
-  abbrev g : Plan (Row M)
-  g = planOf s start k
+    -- ---- a table of rows that is not full
+    module _ (c : ℕ) (not-full : isFull (planOf s start k) c ≡ false) (within : c ≤ maxRows) where
+      abbrev g : Plan (Row M)
+      g = planOf s start k
 
-  abbrev rs : List (Row M)
-  rs = rowsOf g c
+      abbrev rs : List (Row M)
+      rs = rowsOf g c
 
-  -- the row of a number, its source state and its memory
-  abbrev at : ℕ → Row M
-  at i = rowAt g rs i
+      -- the row of a number, its source state and its memory
+      abbrev at : ℕ → Row M
+      at i = rowAt g rs i
 
-  same : SameIsEqual g
-  same = plan-same s start k (law .same-equal) (law .same-refl)
+      same : SameIsEqual g
+      same = plan-same s start k (law .same-equal) (law .same-refl)
 
-  rows-fit : (i : ℕ) → i < length rs → (at i .source < s .states) × Fits (at i .source) (at i .memory)
-  rows-fit i l = reached-fits s start k good Fits law is-start (rows-reached g same c i l)
+      rows-fit : (i : ℕ) → i < length rs → (at i .source < s .states) × Fits (at i .source) (at i .memory)
+      rows-fit i l = reached-fits (rows-reached g same c i l)
 
-  -- one list of a cell for each letter, for each row
-  rows-length : (h : Row M → ℕ → ℕ) → length (joined (λ r. tabulate (s .letters) 0 (h r)) rs) ≡ length rs * s .letters
-  rows-length h = joined-length (λ r. tabulate (s .letters) 0 (h r)) (s .letters) (λ r. tabulate-length (h r) (s .letters) 0) rs
+      -- one list of a cell for each letter, for each row
+      rows-length : (h : Row M → ℕ → ℕ) → length (joined (λ r. tabulate (s .letters) 0 (h r)) rs) ≡ length rs * s .letters
+      rows-length h = joined-length (λ r. tabulate (s .letters) 0 (h r)) (s .letters) (λ r. tabulate-length (h r) (s .letters) 0) rs
 
-  cell-at : (h : Row M → ℕ → ℕ) (z : List ℕ) (i a d : ℕ) → i < length rs → a < s .letters
-      → getD (joined (λ r. tabulate (s .letters) 0 (h r)) rs ++ z) (cell (s .letters) i a) d ≡ h (at i) a
-  cell-at h z i a d l la = joined-at (λ r. tabulate (s .letters) 0 (h r)) (s .letters) (λ r. tabulate-length (h r) (s .letters) 0) rs z i a d (g .first) l la ∙ tabulate-at (h (at i)) (s .letters) 0 a d la ∙ ap (h (at i)) (zero-add a)
+      cell-at : (h : Row M → ℕ → ℕ) (z : List ℕ) (i a d : ℕ) → i < length rs → a < s .letters
+          → getD (joined (λ r. tabulate (s .letters) 0 (h r)) rs ++ z) (cell (s .letters) i a) d ≡ h (at i) a
+      cell-at h z i a d l la =
+          joined-at (λ r. tabulate (s .letters) 0 (h r)) (s .letters) (λ r. tabulate-length (h r) (s .letters) 0) rs z i a d (g .first) l la
+          ∙ tabulate-at (h (at i)) (s .letters) 0 a d la ∙ ap (h (at i)) (zero-add a)
 
-  -- ---- the arrays, with whatever stands behind the rows
-  module _ (za zb zd : List ℕ) where
-    abbrev ts : List ℕ
-    ts = allTargets g noRow rs ++ za
+      -- ---- the arrays, with whatever stands behind the rows
+      module _ (za zb zd : List ℕ) where
+        abbrev ts : List ℕ
+        ts = allTargets g noRow rs ++ za
 
-    abbrev ps : List ℕ
-    ps = allPriorities g rs ++ zb
+        abbrev ps : List ℕ
+        ps = allPriorities g rs ++ zb
 
-    abbrev ss : List ℕ
-    ss = sources rs ++ zd
+        abbrev ss : List ℕ
+        ss = sources rs ++ zd
 
-    abbrev P : System
-    P = paritySystem (length rs) (s .letters) ts
+        abbrev P : System
+        P = paritySystem (length rs) (s .letters) ts
 
-    abbrev source : ℕ → ℕ
-    source i = at i .source
+        abbrev source : ℕ → ℕ
+        source i = at i .source
 
-    target-at : (i a : ℕ) → i < length rs → a < s .letters → P .go i a ≡ targetNumber g noRow rs (at i) a
-    target-at i a l la = cell-at (targetNumber g noRow rs) za i a noRow l la
+        target-at : (i a : ℕ) → i < length rs → a < s .letters → P .go i a ≡ targetNumber g noRow rs (at i) a
+        target-at i a l la = cell-at (targetNumber g noRow rs) za i a noRow l la
 
-    priority-at : (i a : ℕ) → i < length rs → a < s .letters → priorityAt (s .letters) ps (taken i a) ≡ stepOf s k (at i) a .prio
-    priority-at i a l la = cell-at (λ r b. stepOf s k r b .prio) zb i a 0 l la
+        priority-at : (i a : ℕ) → i < length rs → a < s .letters → priorityAt (s .letters) ps (taken i a) ≡ stepOf s k (at i) a .prio
+        priority-at i a l la = cell-at (λ r b. stepOf s k r b .prio) zb i a 0 l la
 
-    source-at : (i : ℕ) → i < length rs → getD ss i 0 ≡ source i
-    source-at i l = mapped-at (λ r. r .source) rs zd i 0 (g .first) l
+        source-at : (i : ℕ) → i < length rs → getD ss i 0 ≡ source i
+        source-at i l = mapped-at (λ r. r .source) rs zd i 0 (g .first) l
 
-    -- ---- the table of rows projects onto the system
-    -- a transition that is there leads to the row of its step
-    target-there : (i a : ℕ) → i < length rs → a < s .letters → s .go (source i) a < s .states
-        → (P .go i a < length rs) × (at (P .go i a) ≡ stepOf s k (at i) a .to)
-    target-there i a l la h =
-        let t = step-there s k (at i) a h in
-        let n = rows-closed g same c not-full i a l la t in
-        let e : P .go i a ≡ numberOf g (stepOf s k (at i) a .to) rs = target-at i a l la ∙ rw t in
-        rw e (n, row-numbered g same c (stepOf s k (at i) a .to) n)
+        -- ---- the table of rows projects onto the system
+        -- a transition that is there leads to the row of its step
+        target-there : (i a : ℕ) → i < length rs → a < s .letters → s .go (source i) a < s .states
+            → (P .go i a < length rs) × (at (P .go i a) ≡ stepOf s k (at i) a .to)
+        target-there i a l la h =
+            let t = step-there s k (at i) a h in
+            let n = rows-closed g same c not-full i a l la t in
+            let e : P .go i a ≡ numberOf g (stepOf s k (at i) a .to) rs = target-at i a l la ∙ rw t in
+            rw e (n, row-numbered g same c (stepOf s k (at i) a .to) n)
 
-    target-missing : (i a : ℕ) → i < length rs → a < s .letters → s .states ≤ s .go (source i) a → P .go i a ≡ noRow
-    target-missing i a l la h = target-at i a l la ∙ rw (step-missing s k (at i) a h)
+        target-missing : (i a : ℕ) → i < length rs → a < s .letters → s .states ≤ s .go (source i) a → P .go i a ≡ noRow
+        target-missing i a l la h = target-at i a l la ∙ rw (step-missing s k (at i) a h)
 
-    few : length rs ≤ noRow
-    few = omega (arith, rows-within g same c not-full)
+        few : length rs ≤ noRow
+        few = omega (arith, rows-within g same c not-full)
 
-    -- a target is a row exactly if the transition is there
-    present : (i a : ℕ) → i < length rs → a < s .letters → P .go i a < length rs → s .go (source i) a < s .states
-    present i a l la h = by (leb (s .states) (s .go (source i) a)) (λ e. absurd (omega (arith, few, target-missing i a l la (leb-true (s .states) (s .go (source i) a) e)))) (λ e. leb-false (s .states) (s .go (source i) a) e)
-
-    missing : (i a : ℕ) → i < length rs → a < s .letters → length rs ≤ P .go i a → s .states ≤ s .go (source i) a
-    missing i a l la h = by (leb (s .states) (s .go (source i) a)) (λ e. leb-true (s .states) (s .go (source i) a) e) (λ e. absurd (omega (arith, target-there i a l la (leb-false (s .states) (s .go (source i) a) e) .0)))
-
-    projects : Projects P s source
-    projects = record { same-letters = refl; state = λ i l. rows-fit i l .0; missing = missing; present = present; target = λ i a l la h. let d = present i a l la h in ap (λ (r : Row M). r .source) (target-there i a l la d .1) ∙ step-source s k (at i) a d }
-
-    -- ---- closed walks
-    -- along a path with a way back every transition is inside, so the memory and the priorities are the keeper's
-    walk-carried : {i : ℕ} {w : List ℕ} {j : ℕ} → i < length rs → Path P i w j → Leads s (source j) (source i)
-        → (at j .memory ≡ memoryAfter s k (source i) (at i .memory) w) × (largest (priorityAt (s .letters) ps) (passFrom P i w) ≡ largestAlong s k (source i) (at i .memory) w)
-    walk-carried l here back = (refl, refl)
-    walk-carried {i} {j = j} l (step {a = a} {w = w} la t r) back =
-        let q = source i in
-        let d = present i a l la t in
-        let e : source (P .go i a) ≡ s .go q a = projects .target i a l la t in
-        let on : Path s (s .go q a) w (source j) = rw e at (path-projects P s source projects t r) in
-        let inside = inside-of-return s la d (path-append s on (back .1)) in
-        let stepped = step-inside s k (at i) a d inside in
-        let next : at (P .go i a) ≡ row (s .go q a) (k .move q a (at i .memory)) = target-there i a l la d .1 ∙ ap (λ (x : Step (Row M)). x .to) stepped in
-        let one : Path s q (a ∷ []) (s .go q a) = step la d here in
-        let rest = walk-carried t r (back .0 ++ (a ∷ []), rw e (path-append s (back .1) one)) in (
-          rest .0 ∙ ap (λ (x : Row M). memoryAfter s k (x .source) (x .memory) w) next,
-          ap₂ max (priority-at i a l la ∙ ap (λ (x : Step (Row M)). x .prio) stepped) (rest .1 ∙ ap (λ (x : Row M). largestAlong s k (x .source) (x .memory) w) next),
-        )
-
-    paths-agree : (i : ℕ) (w : List ℕ) → i < length rs → 0 < length w → Path P i w i
-        → parityGood (s .letters) ps (passFrom P i w) ≡ good (passFrom s (source i) w)
-    paths-agree i [] l some p = absurd (omega arith)
-    paths-agree i (a ∷ w) l some p =
-        let carried = walk-carried l p ([], here) in
-        ap isEven (carried .1) ∙ law .loop (source i) (at i .memory) a w (path-projects P s source projects l p) (rows-fit i l .1) (sym (carried .0))
-
-    pass-projected : {i : ℕ} {w : List ℕ} {j : ℕ} → i < length rs → Path P i w j → projected ss (passFrom P i w) ≡ passFrom s (source i) w
-    pass-projected l here = refl
-    pass-projected {i} l (step {a = a} {w = w} la t r) = ap₂ (λ (q : ℕ) (z : List Taken). taken q a ∷ z) (source-at i l) (pass-projected t r ∙ ap (λ (q : ℕ). passFrom s q w) (projects .target i a l la t))
-
-    walks-agree : (xs : List Taken) → isClosedWalk P xs ≡ true → parityGood (s .letters) ps xs ≡ good (projected ss xs)
-    walks-agree xs h =
-        let z = closed-path P xs h in
-        rw (z .taken-by) (paths-agree (z .place) (z .letters) (z .is-state) (z .some) (z .path) ∙ ap good (sym (pass-projected (z .is-state) (z .path))))
-
-    -- ---- looped words
-    looped-words-agree : (lead l : List ℕ) → 0 < length l → strayLetter (s .letters) lead ≡ false → strayLetter (s .letters) l ≡ false
-        → judgedBy P 0 lead l (parityGood (s .letters) ps) ≡ judgedBy s start lead l good
-    looped-words-agree lead l some lead-ok l-ok =
-        words-agree P s source projects (parityGood (s .letters) ps) good (λ xs ys e. ap isEven (largest-same (priorityAt (s .letters) ps) xs ys e)) (law .set-only) paths-agree 0 lead l (rows-some g same c) some lead-ok l-ok
-        ∙ ap (λ (r : Row M). judgedBy s (r .source) lead l good) (rows-first g same c)
-
-    -- ---- judges
-    targets-taken : targetFault (length rs) noRow (take (length rs * s .letters) ts) ≡ false
-    targets-taken = rw (take-at (allTargets g noRow rs) za (length rs * s .letters) (rows-length (targetNumber g noRow rs))) (joined-none stray (λ r. tabulate (s .letters) 0 (targetNumber g noRow rs r)) (g .first) rs (λ i l. tabulate-none stray (targetNumber g noRow rs (at i)) (s .letters) 0 (λ a low la. taken-at i a l (omega arith))))
-      where
-        stray : ℕ → Bool
-        stray x = not (ltb x (length rs) || eqb x noRow)
-
-        taken-at : (i a : ℕ) → i < length rs → a < s .letters → stray (targetNumber g noRow rs (at i) a) ≡ false
-        taken-at i a l la =
+        -- a target is a row exactly if the transition is there
+        present : (i a : ℕ) → i < length rs → a < s .letters → P .go i a < length rs → s .go (source i) a < s .states
+        present i a l la h =
             by
-            (stepOf s k (at i) a .there)
-            (λ t. rw (t, lt-ltb (numberOf g (stepOf s k (at i) a .to) rs) (length rs) (rows-closed g same c not-full i a l la t)))
-            (λ t. rw (t, or-right (ltb noRow (length rs)) true refl))
+            (leb (s .states) (s .go (source i) a))
+            (λ e. absurd (omega (arith, few, target-missing i a l la (leb-true (s .states) (s .go (source i) a) e))))
+            (λ e. leb-false (s .states) (s .go (source i) a) e)
 
-    parity-taken : 1 ≤ s .letters → s .letters ≤ maxLetters → parityFault (length rs) (s .letters) ts ps ≡ 0
-    parity-taken some-letters most-letters =
-        parity-none (length rs) (s .letters) ts ps (rows-some g same c) (omega (arith, rows-within g same c not-full)) some-letters most-letters
-        (simp length-append (omega (arith, rows-length (targetNumber g noRow rs))))
-        (simp length-append (omega (arith, rows-length (λ r a. stepOf s k r a .prio))))
-        targets-taken
+        missing : (i a : ℕ) → i < length rs → a < s .letters → length rs ≤ P .go i a → s .states ≤ s .go (source i) a
+        missing i a l la h =
+            by
+            (leb (s .states) (s .go (source i) a))
+            (λ e. leb-true (s .states) (s .go (source i) a) e)
+            (λ e. absurd (omega (arith, target-there i a l la (leb-false (s .states) (s .go (source i) a) e) .0)))
 
-    judges-agree : 1 ≤ s .letters → s .letters ≤ maxLetters → (lead l : List ℕ)
-        → parityJudge (length rs) (s .letters) ts ps lead l ≡ unlessRefused (wordFault (s .letters) lead l) (judgedBy s start lead l good)
-    judges-agree some-letters most-letters lead l = rw (parity-taken some-letters most-letters) (by (leb 1 (wordFault (s .letters) lead l)) (λ e. rw e) (λ e. rw e (heard (taken-word (s .letters) lead l (omega (arith, leb-false 1 (wordFault (s .letters) lead l) e))))))
-      where
-        heard : TakenWord (s .letters) lead l → judgedBy P 0 lead l (parityGood (s .letters) ps) ≡ judgedBy s start lead l good
-        heard w = let e = eqb-false (length l) 0 (w .some-loop) in looped-words-agree lead l (omega arith) (w .lead-letters) (w .loop-letters)
+        projects : Projects P s source
+        projects =
+            record {
+              same-letters = refl;
+              state = λ i l. rows-fit i l .0;
+              missing = missing;
+              present = present;
+              target = λ i a l la h. let d = present i a l la h in ap (λ (r : Row M). r .source) (target-there i a l la d .1) ∙ step-source s k (at i) a d;
+            }
 
-    pub demand-3 : 1 ≤ s .letters → s .letters ≤ maxLetters → Agree s start good (length rs) ts ps ss
-    demand-3 some-letters most-letters = record { words = looped-words-agree; judges = judges-agree some-letters most-letters; walks = walks-agree }
+        -- ---- closed walks
+        -- along a path with a way back every transition is inside, so the memory and the priorities are the keeper's
+        walk-carried : {i : ℕ} {w : List ℕ} {j : ℕ} → i < length rs → Path P i w j → Leads s (source j) (source i)
+            → (at j .memory ≡ memoryAfter s k (source i) (at i .memory) w) × (largest (priorityAt (s .letters) ps) (passFrom P i w) ≡ largestAlong s k (source i) (at i .memory) w)
+        walk-carried l here back = (refl, refl)
+        walk-carried {i} {j = j} l (step {a = a} {w = w} la t r) back =
+            let q = source i in
+            let d = present i a l la t in
+            let e : source (P .go i a) ≡ s .go q a = projects .target i a l la t in
+            let on : Path s (s .go q a) w (source j) = rw e at (path-projects P s source projects t r) in
+            let inside = inside-of-return s la d (path-append s on (back .1)) in
+            let stepped = step-inside s k (at i) a d inside in
+            let next : at (P .go i a) ≡ row (s .go q a) (k .move q a (at i .memory)) = target-there i a l la d .1 ∙ ap (λ (x : Step (Row M)). x .to) stepped in
+            let one : Path s q (a ∷ []) (s .go q a) = step la d here in
+            let rest = walk-carried t r (back .0 ++ (a ∷ []), rw e (path-append s (back .1) one)) in (
+              rest .0 ∙ ap (λ (x : Row M). memoryAfter s k (x .source) (x .memory) w) next,
+              ap₂ max (priority-at i a l la ∙ ap (λ (x : Step (Row M)). x .prio) stepped) (rest .1 ∙ ap (λ (x : Row M). largestAlong s k (x .source) (x .memory) w) next),
+            )
+
+        paths-agree : (i : ℕ) (w : List ℕ) → i < length rs → 0 < length w → Path P i w i
+            → parityGood (s .letters) ps (passFrom P i w) ≡ good (passFrom s (source i) w)
+        paths-agree i [] l some p = absurd (omega arith)
+        paths-agree i (a ∷ w) l some p =
+            let carried = walk-carried l p ([], here) in
+            ap isEven (carried .1) ∙ law .loop (source i) (at i .memory) a w (path-projects P s source projects l p) (rows-fit i l .1) (sym (carried .0))
+
+        pass-projected : {i : ℕ} {w : List ℕ} {j : ℕ} → i < length rs → Path P i w j → projected ss (passFrom P i w) ≡ passFrom s (source i) w
+        pass-projected l here = refl
+        pass-projected {i} l (step {a = a} {w = w} la t r) =
+            ap₂ (λ (q : ℕ) (z : List Taken). taken q a ∷ z) (source-at i l)
+            (pass-projected t r ∙ ap (λ (q : ℕ). passFrom s q w) (projects .target i a l la t))
+
+        walks-agree : (xs : List Taken) → isClosedWalk P xs ≡ true → parityGood (s .letters) ps xs ≡ good (projected ss xs)
+        walks-agree xs h =
+            let z = closed-path P xs h in
+            rw (z .taken-by) (paths-agree (z .place) (z .letters) (z .is-state) (z .some) (z .path) ∙ ap good (sym (pass-projected (z .is-state) (z .path))))
+
+        -- ---- looped words
+        looped-words-agree : (lead l : List ℕ) → 0 < length l → strayLetter (s .letters) lead ≡ false → strayLetter (s .letters) l ≡ false
+            → judgedBy P 0 lead l (parityGood (s .letters) ps) ≡ judgedBy s start lead l good
+        looped-words-agree lead l some lead-ok l-ok =
+            words-agree P s source projects (parityGood (s .letters) ps) good (λ xs ys e. ap isEven (largest-same (priorityAt (s .letters) ps) xs ys e)) (law .set-only) paths-agree 0 lead l (rows-some g same c) some lead-ok l-ok
+            ∙ ap (λ (r : Row M). judgedBy s (r .source) lead l good) (rows-first g same c)
+
+        -- ---- judges
+        targets-taken : targetFault (length rs) noRow (take (length rs * s .letters) ts) ≡ false
+        targets-taken =
+            rw (take-at (allTargets g noRow rs) za (length rs * s .letters) (rows-length (targetNumber g noRow rs)))
+            (joined-none stray (λ r. tabulate (s .letters) 0 (targetNumber g noRow rs r)) (g .first) rs (λ i l. tabulate-none stray (targetNumber g noRow rs (at i)) (s .letters) 0 (λ a low la. taken-at i a l (omega arith))))
+          where
+            stray : ℕ → Bool
+            stray x = not (ltb x (length rs) || eqb x noRow)
+
+            taken-at : (i a : ℕ) → i < length rs → a < s .letters → stray (targetNumber g noRow rs (at i) a) ≡ false
+            taken-at i a l la =
+                by
+                (stepOf s k (at i) a .there)
+                (λ t. rw (t, lt-ltb (numberOf g (stepOf s k (at i) a .to) rs) (length rs) (rows-closed g same c not-full i a l la t)))
+                (λ t. rw (t, or-right (ltb noRow (length rs)) true refl))
+
+        parity-taken : 1 ≤ s .letters → s .letters ≤ maxLetters → parityFault (length rs) (s .letters) ts ps ≡ 0
+        parity-taken some-letters most-letters =
+            parity-none (length rs) (s .letters) ts ps (rows-some g same c) (omega (arith, rows-within g same c not-full)) some-letters most-letters
+            (simp length-append (omega (arith, rows-length (targetNumber g noRow rs))))
+            (simp length-append (omega (arith, rows-length (λ r a. stepOf s k r a .prio))))
+            targets-taken
+
+        judges-agree : 1 ≤ s .letters → s .letters ≤ maxLetters → (lead l : List ℕ)
+            → parityJudge (length rs) (s .letters) ts ps lead l ≡ unlessRefused (wordFault (s .letters) lead l) (judgedBy s start lead l good)
+        judges-agree some-letters most-letters lead l =
+            rw (parity-taken some-letters most-letters)
+            (by (leb 1 (wordFault (s .letters) lead l)) (λ e. rw e) (λ e. rw e (heard (taken-word (s .letters) lead l (omega (arith, leb-false 1 (wordFault (s .letters) lead l) e))))))
+          where
+            heard : TakenWord (s .letters) lead l → judgedBy P 0 lead l (parityGood (s .letters) ps) ≡ judgedBy s start lead l good
+            heard w =
+                let e = eqb-false (length l) 0 (w .some-loop) in looped-words-agree lead l (omega arith) (w .lead-letters) (w .loop-letters)
+
+        pub demand-3 : 1 ≤ s .letters → s .letters ≤ maxLetters → Agree s start good (length rs) ts ps ss
+        demand-3 some-letters most-letters =
+            record { words = looped-words-agree; judges = judges-agree some-letters most-letters; walks = walks-agree }

@@ -47,7 +47,8 @@ behind k xs o = replicate (k - length xs) 0 ++ drop (length (xs ++ replicate (k 
 
 after-success : (number k : ℕ) (xs o o′ : List ℕ) → number ≡ 0 → o′ ≡ afterwards number k xs o → xs ++ behind k xs o ≡ o′
 unfolding behind
-after-success number k xs o o′ z e = sym (append-assoc xs (replicate (k - length xs) 0) (drop (length (xs ++ replicate (k - length xs) 0)) o)) ∙ sym (rw z at e)
+after-success number k xs o o′ z e =
+    sym (append-assoc xs (replicate (k - length xs) 0) (drop (length (xs ++ replicate (k - length xs) 0)) o)) ∙ sym (rw z at e)
 
 pub says-agrees : (bs : List ℕ) (c : ℕ) (a a′ b b′ d d′ e e′ : List ℕ) (number count : ℕ)
     → TranslateSays bs c a a′ b b′ d d′ e e′ number count → TranslationAgrees bs a′ b′ d′ number count

@@ -30,27 +30,39 @@ module _ {A : Type 0} (b : A → Bool) where
 
   pub place-found : (d : A) (xs : List A) → placeOf b xs < length xs → b (getD xs (placeOf b xs) d) ≡ true
   place-found d [] h = absurd (omega arith)
-  place-found d (x ∷ xs) h = by (b x) (λ e. rw (place-hit x xs e) e) (λ e. rw (place-miss x xs e) (place-found d xs (omega (arith, rw (place-miss x xs e) at h))))
+  place-found d (x ∷ xs) h =
+      by (b x) (λ e. rw (place-hit x xs e) e) (λ e. rw (place-miss x xs e) (place-found d xs (omega (arith, rw (place-miss x xs e) at h))))
 
   pub place-least : (d : A) (xs : List A) (k : ℕ) → k < length xs → b (getD xs k d) ≡ true → placeOf b xs ≤ k
   place-least d [] k l h = absurd (omega arith)
   place-least d (x ∷ xs) zero l h = rw (place-hit x xs h) (omega arith)
-  place-least d (x ∷ xs) (suc k) l h = by (b x) (λ e. rw (place-hit x xs e) (omega arith)) (λ e. rw (place-miss x xs e) (omega (arith, place-least d xs k (omega arith) h)))
+  place-least d (x ∷ xs) (suc k) l h =
+      by (b x) (λ e. rw (place-hit x xs e) (omega arith)) (λ e. rw (place-miss x xs e) (omega (arith, place-least d xs k (omega arith) h)))
 
   pub place-append : (xs ys : List A) → placeOf b xs < length xs → placeOf b (xs ++ ys) ≡ placeOf b xs
   place-append [] ys h = absurd (omega arith)
-  place-append (x ∷ xs) ys h = by (b x) (λ e. place-hit x (xs ++ ys) e ∙ sym (place-hit x xs e)) (λ e. place-miss x (xs ++ ys) e ∙ ap suc (place-append xs ys (omega (arith, rw (place-miss x xs e) at h))) ∙ sym (place-miss x xs e))
+  place-append (x ∷ xs) ys h =
+      by
+      (b x)
+      (λ e. place-hit x (xs ++ ys) e ∙ sym (place-hit x xs e))
+      (λ e. place-miss x (xs ++ ys) e ∙ ap suc (place-append xs ys (omega (arith, rw (place-miss x xs e) at h))) ∙ sym (place-miss x xs e))
 
   pub place-added : (xs : List A) (y : A) → length xs ≤ placeOf b xs → b y ≡ true → placeOf b (xs ++ (y ∷ [])) ≡ length xs
   place-added [] y h e = place-hit y [] e
-  place-added (x ∷ xs) y h e = by (b x) (λ f. absurd (omega (arith, rw (place-hit x xs f) at h))) (λ f. place-miss x (xs ++ (y ∷ [])) f ∙ ap suc (place-added xs y (omega (arith, rw (place-miss x xs f) at h)) e))
+  place-added (x ∷ xs) y h e =
+      by
+      (b x)
+      (λ f. absurd (omega (arith, rw (place-hit x xs f) at h)))
+      (λ f. place-miss x (xs ++ (y ∷ [])) f ∙ ap suc (place-added xs y (omega (arith, rw (place-miss x xs f) at h)) e))
 
 -- ---- moments of the exploration, ordered by row and letter
 earlier-row : {j b i a : ℕ} → Earlier j b i a → j ≤ i
 earlier-row e = ⊎-elim (λ l. omega arith) (λ p. omega arith) e
 
 earlier-next : {C : Type 0} {j b i a : ℕ} → Earlier j b i (suc a) → (Earlier j b i a → C) → (j ≡ i → b ≡ a → C) → C
-earlier-next {b = b} {a = a} e f g = ⊎-elim (λ l. f (inl l)) (λ p. by (ltb b a) (λ h. f (inr (p .0, ltb-true b a h))) (λ h. g (p .0) (omega (arith, ltb-false b a h, p .1)))) e
+earlier-next {b = b} {a = a} e f g =
+    ⊎-elim (λ l. f (inl l)) (λ p. by (ltb b a) (λ h. f (inr (p .0, ltb-true b a h))) (λ h. g (p .0) (omega (arith, ltb-false b a h, p .1))))
+    e
 
 module _ {A : Type 0} (g : Plan A) (law : SameIsEqual g) where
   -- the rows found when the rows below i have been read, and row i by the letters below a
@@ -108,7 +120,8 @@ module _ {A : Type 0} (g : Plan A) (law : SameIsEqual g) where
           is-letter = d .is-letter;
           there = rw o (d .there);
           found = rw (o, same-row k l) (d .found);
-          nothing-new = λ j b e lb t. old-step j b k (omega (arith, earlier-row e, d .from-before)) (omega arith) (d .nothing-new j b e lb) t;
+          nothing-new =
+              λ j b e lb t. old-step j b k (omega (arith, earlier-row e, d .from-before)) (omega arith) (d .nothing-new j b e lb) t;
         }
 
     discovered-last : {i a : ℕ} → Found i a rs → i < length rs → a < g .letters → g .step (rowAt g rs i) a .there ≡ true
@@ -122,7 +135,8 @@ module _ {A : Type 0} (g : Plan A) (law : SameIsEqual g) where
           is-letter = la;
           there = rw o t;
           found = rw (o, last-row) to;
-          nothing-new = λ j b e lb t′. let lj : j < length rs = omega (arith, earlier-row e) in old-step j b (length rs) lj (omega arith) (f .closed j b e lb lj) t′;
+          nothing-new =
+              λ j b e lb t′. let lj : j < length rs = omega (arith, earlier-row e) in old-step j b (length rs) lj (omega arith) (f .closed j b e lb lj) t′;
         }
 
     found-more : {i a : ℕ} → Found i a rs → i < length rs → a < g .letters → g .step (rowAt g rs i) a .there ≡ true
@@ -132,42 +146,71 @@ module _ {A : Type 0} (g : Plan A) (law : SameIsEqual g) where
           some = omega (arith, more-length);
           front = same-row 0 (f .some) ∙ f .front;
           once = once-more (f .once);
-          closed = λ j b h lb lj t′. earlier-next h (λ h′. let lj′ : j < length rs = omega (arith, earlier-row h′) in omega (arith, more-length, old-step j b (length rs) lj′ (omega arith) (f .closed j b h′ lb lj′) t′)) (λ p q. rw (p, q, same-row i l, to) (omega (arith, last-number, more-length)));
-          ordered = λ k pos lk. by (ltb k (length rs)) (λ e. let b = ltb-true k (length rs) e in discovered-more k b (f .ordered k pos b)) (λ e. let z : k ≡ length rs = omega (arith, ltb-false k (length rs) e, more-length) in rw z (discovered-last f l la t to));
+          closed =
+              λ j b h lb lj t′. earlier-next h (λ h′. let lj′ : j < length rs = omega (arith, earlier-row h′) in omega (arith, more-length, old-step j b (length rs) lj′ (omega arith) (f .closed j b h′ lb lj′) t′)) (λ p q. rw (p, q, same-row i l, to) (omega (arith, last-number, more-length)));
+          ordered =
+              λ k pos lk. by (ltb k (length rs)) (λ e. let b = ltb-true k (length rs) e in discovered-more k b (f .ordered k pos b)) (λ e. let z : k ≡ length rs = omega (arith, ltb-false k (length rs) e, more-length) in rw z (discovered-last f l la t to));
         }
 
   found-met : {i a : ℕ} {rs : List A} → Found i a rs → i < length rs → a < g .letters → Found i (suc a) (met g rs (rowAt g rs i) a)
-  found-met {i} {a} {rs} f l la = by (g .step (rowAt g rs i) a .there && leb (length rs) (numberOf g (g .step (rowAt g rs i) a .to) rs)) added known
+  found-met {i} {a} {rs} f l la =
+      by (g .step (rowAt g rs i) a .there && leb (length rs) (numberOf g (g .step (rowAt g rs i) a .to) rs)) added known
     where
       x : A
       x = g .step (rowAt g rs i) a .to
 
       added : g .step (rowAt g rs i) a .there && leb (length rs) (numberOf g x rs) ≡ true → Found i (suc a) (met g rs (rowAt g rs i) a)
-      added e = let r = and-parts (g .step (rowAt g rs i) a .there) (leb (length rs) (numberOf g x rs)) e in rw e (found-more rs x (leb-true (length rs) (numberOf g x rs) (r .1)) f l la (r .0) refl)
+      added e =
+          let r = and-parts (g .step (rowAt g rs i) a .there) (leb (length rs) (numberOf g x rs)) e in
+          rw e (found-more rs x (leb-true (length rs) (numberOf g x rs) (r .1)) f l la (r .0) refl)
 
       known : g .step (rowAt g rs i) a .there && leb (length rs) (numberOf g x rs) ≡ false → Found i (suc a) (met g rs (rowAt g rs i) a)
-      known e = rw e (record { some = f .some; front = f .front; once = f .once; closed = λ j b h lb lj t. earlier-next h (λ h′. f .closed j b h′ lb lj t) (λ p q. rw (p, q) (now (rw (p, q) at t))); ordered = f .ordered })
+      known e =
+          rw e
+          (record { some = f .some; front = f .front; once = f .once; closed = λ j b h lb lj t. earlier-next h (λ h′. f .closed j b h′ lb lj t) (λ p q. rw (p, q) (now (rw (p, q) at t))); ordered = f .ordered })
         where
           now : g .step (rowAt g rs i) a .there ≡ true → numberOf g x rs < length rs
-          now t = by (leb (length rs) (numberOf g x rs)) (λ h. clash (and-both (g .step (rowAt g rs i) a .there) (leb (length rs) (numberOf g x rs)) t h) e) (λ h. leb-false (length rs) (numberOf g x rs) h)
+          now t =
+              by
+              (leb (length rs) (numberOf g x rs))
+              (λ h. clash (and-both (g .step (rowAt g rs i) a .there) (leb (length rs) (numberOf g x rs)) t h) e)
+              (λ h. leb-false (length rs) (numberOf g x rs) h)
 
   -- ---- the whole exploration
   met-longer : (rs : List A) (r : A) (a : ℕ) → length rs ≤ length (met g rs r a)
-  met-longer rs r a = by (g .step r a .there && leb (length rs) (numberOf g (g .step r a .to) rs)) (λ e. rw e (simp length-append (omega arith))) (λ e. rw e (omega arith))
+  met-longer rs r a =
+      by
+      (g .step r a .there && leb (length rs) (numberOf g (g .step r a .to) rs))
+      (λ e. rw e (simp length-append (omega arith)))
+      (λ e. rw e (omega arith))
 
   met-row : (rs : List A) (r : A) (a i : ℕ) → i < length rs → rowAt g (met g rs r a) i ≡ rowAt g rs i
-  met-row rs r a i l = by (g .step r a .there && leb (length rs) (numberOf g (g .step r a .to) rs)) (λ e. rw e (List·getD-append rs (g .step r a .to ∷ []) (g .first) i l)) (λ e. rw e)
+  met-row rs r a i l =
+      by
+      (g .step r a .there && leb (length rs) (numberOf g (g .step r a .to) rs))
+      (λ e. rw e (List·getD-append rs (g .step r a .to ∷ []) (g .first) i l))
+      (λ e. rw e)
 
   found-by : (n : ℕ) {i a : ℕ} {rs : List A} (r : A) → Found i a rs → rowAt g rs i ≡ r → i < length rs → a + n ≡ g .letters
       → Found i (g .letters) (foundBy n a g r rs) × (i < length (foundBy n a g r rs))
   found-by zero {i} {a} {rs} r f e l h = let z : a ≡ g .letters = omega arith in (rw z at f, l)
-  found-by (suc n) {i} {a} {rs} r f e l h = found-by n r (rw e at (found-met f l (omega arith))) (met-row rs r a i l ∙ e) (omega (arith, met-longer rs r a)) (omega arith)
+  found-by (suc n) {i} {a} {rs} r f e l h =
+      found-by n r (rw e at (found-met f l (omega arith))) (met-row rs r a i l ∙ e) (omega (arith, met-longer rs r a)) (omega arith)
 
   found-next : {i : ℕ} {rs : List A} → Found i (g .letters) rs → Found (suc i) 0 rs
-  found-next {i} f = record { some = f .some; front = f .front; once = f .once; ordered = f .ordered; closed = λ j b h lb lj t. f .closed j b (earlier h lb) lb lj t }
+  found-next {i} f =
+      record {
+        some = f .some;
+        front = f .front;
+        once = f .once;
+        ordered = f .ordered;
+        closed = λ j b h lb lj t. f .closed j b (earlier h lb) lb lj t;
+      }
     where
       earlier : {j b : ℕ} → Earlier j b (suc i) 0 → b < g .letters → Earlier j b i (g .letters)
-      earlier {j} h lb = ⊎-elim (λ l. by (ltb j i) (λ e. inl (ltb-true j i e)) (λ e. inr (omega (arith, ltb-false j i e), lb))) (λ p. absurd (omega arith)) h
+      earlier {j} h lb =
+          ⊎-elim (λ l. by (ltb j i) (λ e. inl (ltb-true j i e)) (λ e. inr (omega (arith, ltb-false j i e), lb))) (λ p. absurd (omega arith))
+          h
 
   from-on : (n i c : ℕ) (rs : List A) → ltb i (length rs) && leb (length rs) c ≡ true
       → foundFrom (suc n) i g c rs ≡ foundFrom n (suc i) g c (foundBy (g .letters) 0 g (rowAt g rs i) rs)
@@ -183,7 +226,12 @@ module _ {A : Type 0} (g : Plan A) (law : SameIsEqual g) where
     ended : (c < length rs) ⊎ (length rs ≤ read)
 
   found-from : (n c : ℕ) {i : ℕ} {rs : List A} → Found i 0 rs → n + i ≡ suc c → Explored c (foundFrom n i g c rs)
-  found-from zero c {i} {rs} f h = record { read = i; rows = f; ended = by (ltb c (length rs)) (λ e. inl (ltb-true c (length rs) e)) (λ e. inr (omega (arith, ltb-false c (length rs) e))) }
+  found-from zero c {i} {rs} f h =
+      record {
+        read = i;
+        rows = f;
+        ended = by (ltb c (length rs)) (λ e. inl (ltb-true c (length rs) e)) (λ e. inr (omega (arith, ltb-false c (length rs) e)));
+      }
   found-from (suc n) c {i} {rs} f h =
       by
       (ltb i (length rs) && leb (length rs) c)
@@ -191,7 +239,14 @@ module _ {A : Type 0} (g : Plan A) (law : SameIsEqual g) where
       (λ e. rw (from-end n i c rs e) (record { read = i; rows = f; ended = by (ltb i (length rs)) (λ p. inl (leb-false (length rs) c (rw p at e))) (λ p. inr (ltb-false i (length rs) p)) }))
 
   first-found : Found 0 0 (g .first ∷ [])
-  first-found = record { some = omega arith; front = refl; once = alone; closed = λ j b h lb lj t. absurd (⊎-elim (λ (l : j < 0). omega arith) (λ (p : (j ≡ 0) × (b < 0)). omega arith) h); ordered = λ k pos l. absurd (omega arith) }
+  first-found =
+      record {
+        some = omega arith;
+        front = refl;
+        once = alone;
+        closed = λ j b h lb lj t. absurd (⊎-elim (λ (l : j < 0). omega arith) (λ (p : (j ≡ 0) × (b < 0)). omega arith) h);
+        ordered = λ k pos l. absurd (omega arith);
+      }
     where
       alone : (k : ℕ) → k < length (g .first ∷ []) → numberOf g (rowAt g (g .first ∷ []) k) (g .first ∷ []) ≡ k
       alone zero l = place-hit (g .same (g .first)) (g .first) [] (law .self (g .first))
@@ -219,14 +274,19 @@ module _ {A : Type 0} (g : Plan A) (law : SameIsEqual g) where
     rows-discovered = explored c .rows .ordered
 
     pub rows-distinct : Distinct g rs
-    rows-distinct i j l lj e = let p = rows-once i (omega arith) in let q = rows-once j lj in let z : i ≡ j = sym p ∙ ap (λ (r : A). numberOf g r rs) e ∙ q in omega arith
+    rows-distinct i j l lj e =
+        let p = rows-once i (omega arith) in
+        let q = rows-once j lj in let z : i ≡ j = sym p ∙ ap (λ (r : A). numberOf g r rs) e ∙ q in omega arith
 
     -- whatever the first row has and steps keep
     module _ (P : A → Type 0) (first : P (g .first)) (step : (r : A) (a : ℕ) → a < g .letters → P r → g .step r a .there ≡ true → P (g .step r a .to)) where
       all-below : (n k : ℕ) → k < n → k < length rs → P (rowAt g rs k)
       all-below zero k h l = absurd (omega arith)
       all-below (suc n) zero h l = rw rows-first first
-      all-below (suc n) (suc k) h l = let d = rows-discovered (suc k) (omega arith) l in subst P (d .found) (step (rowAt g rs (d .by-row)) (d .by-letter) (d .is-letter) (all-below n (d .by-row) (omega (arith, d .from-before)) (omega (arith, d .from-before))) (d .there))
+      all-below (suc n) (suc k) h l =
+          let d = rows-discovered (suc k) (omega arith) l in
+          subst P (d .found)
+          (step (rowAt g rs (d .by-row)) (d .by-letter) (d .is-letter) (all-below n (d .by-row) (omega (arith, d .from-before)) (omega (arith, d .from-before))) (d .there))
 
       pub rows-all : (k : ℕ) → k < length rs → P (rowAt g rs k)
       rows-all k l = all-below (suc k) k (omega arith) l
@@ -244,17 +304,21 @@ module _ {A : Type 0} (g : Plan A) (law : SameIsEqual g) where
 
       pub rows-closed : (j b : ℕ) → j < length rs → b < g .letters → g .step (rowAt g rs j) b .there ≡ true
           → numberOf g (g .step (rowAt g rs j) b .to) rs < length rs
-      rows-closed j b lj lb t = explored c .rows .closed j b (inl (⊎-elim (λ h. omega (arith, rows-within)) (λ h. omega arith) (explored c .ended))) lb lj t
+      rows-closed j b lj lb t =
+          explored c .rows .closed j b (inl (⊎-elim (λ h. omega (arith, rows-within)) (λ h. omega arith) (explored c .ended))) lb lj t
 
       pub reached-row : {r : A} → Reached g r → numberOf g r rs < length rs
-      reached-row first-row = let h = place-least (g .same (g .first)) (g .first) rs 0 rows-some (rw rows-first (law .self (g .first))) in omega (arith, rows-some)
+      reached-row first-row =
+          let h = place-least (g .same (g .first)) (g .first) rs 0 rows-some (rw rows-first (law .self (g .first))) in
+          omega (arith, rows-some)
       reached-row (next-row {r = x} {a = a} h l t) =
           let n = reached-row h in
           let e = row-numbered x n in
           subst (λ (z : A). numberOf g (g .step z a .to) rs < length rs) e (rows-closed (numberOf g x rs) a n l (rw e t))
 
     pub full-view : (isFull g c ≡ true) ↔ ((xs : List A) × (c < length xs) × Distinct g xs × ((k : ℕ) → k < length xs → Reached g (rowAt g xs k)))
-    full-view = (λ h. (rs, ltb-true c (length rs) h, rows-distinct, rows-reached), λ f. by (isFull g c) (λ e. e) (λ e. absurd (crowded e f)))
+    full-view =
+        (λ h. (rs, ltb-true c (length rs) h, rows-distinct, rows-reached), λ f. by (isFull g c) (λ e. e) (λ e. absurd (crowded e f)))
       where
         crowded : isFull g c ≡ false
             → (xs : List A) × (c < length xs) × Distinct g xs × ((k : ℕ) → k < length xs → Reached g (rowAt g xs k)) → ⊥

@@ -26,11 +26,14 @@ digit-bounds : (i : ℕ) → isDigit i ≡ true → (1 ≤ i) × (i ≤ 9)
 digit-bounds i h = let r = and-parts (leb 1 i) (leb i 9) h in (leb-true 1 i (r .0), leb-true i 9 (r .1))
 
 digits-split : (i : ℕ) (o : List ℕ) → AllDigits (i ∷ o) → (1 ≤ i) × (i ≤ 9) × AllDigits o
-digits-split i o h = let r = or-none (not (isDigit i)) (any (λ j. not (isDigit j)) o) h in let b = digit-bounds i (not-false (isDigit i) (r .0)) in (b .0, b .1, r .1)
+digits-split i o h =
+    let r = or-none (not (isDigit i)) (any (λ j. not (isDigit j)) o) h in
+    let b = digit-bounds i (not-false (isDigit i) (r .0)) in (b .0, b .1, r .1)
 
 digits-turned : (o acc : List ℕ) → AllDigits o → AllDigits acc → AllDigits (reverseAux o acc)
 digits-turned [] acc h g = g
-digits-turned (i ∷ o) acc h g = let r = or-none (not (isDigit i)) (any (λ j. not (isDigit j)) o) h in digits-turned o (i ∷ acc) (r .1) (rw (r .0) g)
+digits-turned (i ∷ o) acc h g =
+    let r = or-none (not (isDigit i)) (any (λ j. not (isDigit j)) o) h in digits-turned o (i ∷ acc) (r .1) (rw (r .0) g)
 
 -- the number of a list read from its end: the first element is the last digit
 abbrev fromEnd : List ℕ → ℕ
@@ -52,7 +55,10 @@ decimal-turned [] acc = refl
 decimal-turned (i ∷ o) acc = decimal-turned o (i ∷ acc)
 
 pub decimal-determines : (o o′ : List ℕ) → AllDigits o → AllDigits o′ → decimal o ≡ decimal o′ → o ≡ o′
-decimal-determines o o′ h g e = sym (reverse-reverse o) ∙ ap reverse (from-end-same (reverse o) (reverse o′) (digits-turned o [] h refl) (digits-turned o′ [] g refl) (sym (decimal-turned o []) ∙ e ∙ decimal-turned o′ [])) ∙ reverse-reverse o′
+decimal-determines o o′ h g e =
+    sym (reverse-reverse o)
+    ∙ ap reverse (from-end-same (reverse o) (reverse o′) (digits-turned o [] h refl) (digits-turned o′ [] g refl) (sym (decimal-turned o []) ∙ e ∙ decimal-turned o′ []))
+    ∙ reverse-reverse o′
 
 module _ (t : Table) (few : t .pairs ≤ 9) where
   pub ordering-digits : (q : ℕ) (o : List ℕ) → IsOrdering t q o → AllDigits o

@@ -61,4 +61,5 @@ module _ (f : ℕ → ℕ) where
             (b .0, omega arith, ap c (sym (b .2) ∙ sym (iter-add (r .0 - i) i p) ∙ ap (λ (z : ℕ). iter f z p) e) ∙ r .2)
 
         recurs : (k : ℕ) × (k < w) × (c (iter f k (iter f i p)) ≡ true) → Recur
-        recurs h r = let t = comes-again (iter f i p) d some round (h .0) r in (t .0 + i, omega arith, ap c (iter-add (t .0) i p ∙ t .2) ∙ h .2)
+        recurs h r =
+            let t = comes-again (iter f i p) d some round (h .0) r in (t .0 + i, omega arith, ap c (iter-add (t .0) i p ∙ t .2) ∙ h .2)

@@ -27,10 +27,16 @@ without-same v x y dx dy h =
 
 pub pigeonhole : (n : ℕ) (f : ℕ → ℕ) → ((r : ℕ) → r ≤ n → f r < n) → (i j : ℕ) × (i < j) × (j ≤ n) × (f i ≡ f j)
 pigeonhole zero f below = absurd (omega (arith, below 0 (omega arith)))
-pigeonhole (suc n) f below = by (anyBelow (suc n) (λ i. eqb (f i) (f (suc n)))) found (λ h. fewer h (pigeonhole n (λ r. without (f (suc n)) (f r)) (λ r l. without-below (f (suc n)) (f r) n (below r (omega arith)) (below (suc n) (omega arith)) (new h r l))))
+pigeonhole (suc n) f below =
+    by
+    (anyBelow (suc n) (λ i. eqb (f i) (f (suc n))))
+    found
+    (λ h. fewer h (pigeonhole n (λ r. without (f (suc n)) (f r)) (λ r l. without-below (f (suc n)) (f r) n (below r (omega arith)) (below (suc n) (omega arith)) (new h r l))))
   where
     found : anyBelow (suc n) (λ i. eqb (f i) (f (suc n))) ≡ true → (i j : ℕ) × (i < j) × (j ≤ suc n) × (f i ≡ f j)
-    found h = let r = below-find (suc n) (λ i. eqb (f i) (f (suc n))) h in (r .0, suc n, r .1, omega arith, eqb-true (f (r .0)) (f (suc n)) (r .2))
+    found h =
+        let r = below-find (suc n) (λ i. eqb (f i) (f (suc n))) h in
+        (r .0, suc n, r .1, omega arith, eqb-true (f (r .0)) (f (suc n)) (r .2))
 
     new : anyBelow (suc n) (λ i. eqb (f i) (f (suc n))) ≡ false → (r : ℕ) → r ≤ n → f r ≡ f (suc n) → ⊥
     new h r l e = clash (below-intro (suc n) (λ i. eqb (f i) (f (suc n))) r (omega arith) (eq-eqb (f r) (f (suc n)) e)) h
@@ -38,4 +44,5 @@ pigeonhole (suc n) f below = by (anyBelow (suc n) (λ i. eqb (f i) (f (suc n))))
     fewer : anyBelow (suc n) (λ i. eqb (f i) (f (suc n))) ≡ false
         → ((i j : ℕ) × (i < j) × (j ≤ n) × (without (f (suc n)) (f i) ≡ without (f (suc n)) (f j)))
         → (i j : ℕ) × (i < j) × (j ≤ suc n) × (f i ≡ f j)
-    fewer h r = (r .0, r .1, r .2, omega arith, without-same (f (suc n)) (f (r .0)) (f (r .1)) (new h (r .0) (omega arith)) (new h (r .1) (r .3)) (r .4))
+    fewer h r =
+        (r .0, r .1, r .2, omega arith, without-same (f (suc n)) (f (r .0)) (f (r .1)) (new h (r .0) (omega arith)) (new h (r .1) (r .3)) (r .4))

@@ -34,7 +34,9 @@ same-order-equal : (o o′ : List ℕ) → sameOrder o o′ ≡ true → o ≡ o
 same-order-equal [] [] h = refl
 same-order-equal [] (j ∷ o′) h = absurd (false≢true h)
 same-order-equal (i ∷ o) [] h = absurd (false≢true h)
-same-order-equal (i ∷ o) (j ∷ o′) h = let r = and-parts (eqb i j) (sameOrder o o′) h in ap₂ (λ (x : ℕ) (z : List ℕ). x ∷ z) (eqb-true i j (r .0)) (same-order-equal o o′ (r .1))
+same-order-equal (i ∷ o) (j ∷ o′) h =
+    let r = and-parts (eqb i j) (sameOrder o o′) h in
+    ap₂ (λ (x : ℕ) (z : List ℕ). x ∷ z) (eqb-true i j (r .0)) (same-order-equal o o′ (r .1))
 
 same-order-refl : (o : List ℕ) → sameOrder o o ≡ true
 same-order-refl [] = refl
@@ -55,7 +57,11 @@ range-above (suc n) i x h = rw (ne-eqb x i (λ e. omega arith)) (range-above n (
 
 range-once : (n i x : ℕ) → i ≤ x → x < i + n → occurs x (tabulate n i (λ j. j)) ≡ 1
 range-once zero i x l h = absurd (omega arith)
-range-once (suc n) i x l h = by (eqb x i) (λ e. rw e (ap suc (range-below n (suc i) x (omega (arith, eqb-true x i e))))) (λ e. rw e (range-once n (suc i) x (omega (arith, eqb-false x i e)) (omega arith)))
+range-once (suc n) i x l h =
+    by
+    (eqb x i)
+    (λ e. rw e (ap suc (range-below n (suc i) x (omega (arith, eqb-true x i e)))))
+    (λ e. rw e (range-once n (suc i) x (omega (arith, eqb-false x i e)) (omega arith)))
 
 kept-once : (b : ℕ → Bool) (x : ℕ) (o : List ℕ) → b x ≡ true → occurs x (keep b o) ≡ occurs x o
 kept-once b x o h = omega (arith, kept-occurs b x o, none-occurs x (keep (λ i. not (b i)) o) (keep-free (λ i. not (b i)) x o (rw h)))
@@ -65,7 +71,11 @@ module _ (t : Table) where
   s = systemOf t
 
   pub rising-ordering : (q : ℕ) → IsOrdering t q (rising t q)
-  rising-ordering q i = by (counts t q i) counted (λ e. none-occurs i (rising t q) (keep-free (counts t q) i (tabulate (t .pairs) 1 (λ j. j)) e) ∙ rw (e, and-false (leb i (t .pairs)), and-false (leb 1 i)))
+  rising-ordering q i =
+      by
+      (counts t q i)
+      counted
+      (λ e. none-occurs i (rising t q) (keep-free (counts t q) i (tabulate (t .pairs) 1 (λ j. j)) e) ∙ rw (e, and-false (leb i (t .pairs)), and-false (leb 1 i)))
     where
       counted : counts t q i ≡ true → occurs i (rising t q) ≡ pick (isCounted t q i) 1 0
       counted e =
@@ -76,15 +86,22 @@ module _ (t : Table) where
           (λ f. rw f (range-below (t .pairs) 1 i (leb-false 1 i f)))
 
   pub ordering-together : (p q : ℕ) (o : List ℕ) → together s p q ≡ true → IsOrdering t p o → IsOrdering t q o
-  ordering-together p q o h f i = f i ∙ ap (λ (b : Bool). pick (leb 1 i && (leb i (t .pairs) && b)) 1 0) (met-same s (λ x a. requires t x a i) p q h)
+  ordering-together p q o h f i =
+      f i ∙ ap (λ (b : Bool). pick (leb 1 i && (leb i (t .pairs) && b)) 1 0) (met-same s (λ x a. requires t x a i) p q h)
 
   pub moved-ordering : (q a : ℕ) (o : List ℕ) → isInside s q a ≡ true → IsOrdering t q o
       → IsOrdering t (s .go q a) (moved asTheyStood (prohibits t q a) o)
-  moved-ordering q a o h f = ordering-together q (s .go q a) (moved asTheyStood (prohibits t q a) o) (inside-parts s q a h .1) (λ i. moved-occurs asTheyStood stood-rearranges (prohibits t q a) i o ∙ f i)
+  moved-ordering q a o h f =
+      ordering-together q (s .go q a) (moved asTheyStood (prohibits t q a) o) (inside-parts s q a h .1)
+      (λ i. moved-occurs asTheyStood stood-rearranges (prohibits t q a) i o ∙ f i)
 
   -- what an ordering holds
   pub ordering-holds : (q i : ℕ) (o : List ℕ) → IsOrdering t q o → isIn i o ≡ isCounted t q i
-  ordering-holds q i o f = by (isCounted t q i) (λ e. by (isIn i o) (λ h. h ∙ sym e) (λ h. absurd (omega (arith, none-occurs i o h, once e)))) (λ e. occurs-none i o (f i ∙ rw e) ∙ sym e)
+  ordering-holds q i o f =
+      by
+      (isCounted t q i)
+      (λ e. by (isIn i o) (λ h. h ∙ sym e) (λ h. absurd (omega (arith, none-occurs i o h, once e))))
+      (λ e. occurs-none i o (f i ∙ rw e) ∙ sym e)
     where
       once : isCounted t q i ≡ true → occurs i o ≡ 1
       once e = f i ∙ rw e
@@ -103,7 +120,9 @@ module _ (t : Table) where
   largest-along (a ∷ w) q o = ap (max (priority (marksOf t q a) o)) (largest-along w (s .go q a) (moved asTheyStood (prohibits t q a) o))
 
   satisfied-along : (w : List ℕ) (q i : ℕ) → satisfied (marksAlong q w) i ≡ satisfiesPair t i (passFrom s q w)
-  satisfied-along w q i = ap₂ (λ (b c : Bool). not b && c) (any-map (λ m. m .prohibited i) (λ x. marksOf t (x .from) (x .by)) (passFrom s q w)) (any-map (λ m. m .required i) (λ x. marksOf t (x .from) (x .by)) (passFrom s q w))
+  satisfied-along w q i =
+      ap₂ (λ (b c : Bool). not b && c) (any-map (λ m. m .prohibited i) (λ x. marksOf t (x .from) (x .by)) (passFrom s q w))
+      (any-map (λ m. m .required i) (λ x. marksOf t (x .from) (x .by)) (passFrom s q w))
 
   -- a transition of a walk from q that leads back to q is an inside transition of q's component
   walk-met : (b : ℕ → ℕ → Bool) (o : ℕ) {q : ℕ} {w : List ℕ} {y : ℕ} → q < s .states → Leads s o q → Path s q w y → Leads s y o
@@ -155,7 +174,8 @@ module _ (t : Table) where
           any-intro (satisfied ms) o i (ordering-holds q i o f ∙ and-both (leb 1 i) (leb i (t .pairs) && counts t q i) (le-leb 1 i (omega arith)) (and-both (leb i (t .pairs)) (counts t q i) (le-leb i (t .pairs) (r .1)) c)) (satisfied-along (a ∷ w) q i ∙ r .2)
 
   pair-set-only : (i : ℕ) (xs ys : List Taken) → SameSet xs ys → satisfiesPair t i xs ≡ satisfiesPair t i ys
-  pair-set-only i xs ys e = ap₂ (λ (b c : Bool). not b && c) (e (λ x. prohibits t (x .from) (x .by) i)) (e (λ x. requires t (x .from) (x .by) i))
+  pair-set-only i xs ys e =
+      ap₂ (λ (b c : Bool). not b && c) (e (λ x. prohibits t (x .from) (x .by) i)) (e (λ x. requires t (x .from) (x .by) i))
 
   pub rabin-lawful : Lawful s (recordKeeper t) (satisfies t) (IsOrdering t)
   rabin-lawful =
@@ -165,7 +185,8 @@ module _ (t : Table) where
         fits-enter = λ q l. rising-ordering q;
         fits-move = λ q a o l la i f. moved-ordering q a o i f;
         set-only = λ xs ys e. ap (anyBelow (t .pairs)) (fun-ext (λ i. pair-set-only (suc i) xs ys e));
-        loop = λ q o a w p f closed. ap isEven (largest-along (a ∷ w) q o) ∙ closed-walk asTheyStood stood-rearranges (marksOf t q a) (marksAlong (s .go q a) w) o (sym (memory-along (a ∷ w) q o) ∙ closed) ∙ some-satisfied q a w o p f;
+        loop =
+            λ q o a w p f closed. ap isEven (largest-along (a ∷ w) q o) ∙ closed-walk asTheyStood stood-rearranges (marksOf t q a) (marksAlong (s .go q a) w) o (sym (memory-along (a ∷ w) q o) ∙ closed) ∙ some-satisfied q a w o p f;
       }
 
   pub table-same : SameIsEqual (tablePlan t)

@@ -33,11 +33,16 @@ module _ (e : ℕ → ℕ → Bool) where
   -- the two ways of a chain that may pass through k: not at all, or to k and from k on
   via-split : {C : Type 0} (k p q : ℕ) → via e (suc k) p q ≡ true → (via e k p q ≡ true → C) → (via e k p k ≡ true → via e k k q ≡ true → C)
       → C
-  via-split k p q h f g = or-cases (via e k p q) (via e k p k && via e k k q) h f (λ b. let r = and-parts (via e k p k) (via e k k q) b in g (r .0) (r .1))
+  via-split k p q h f g =
+      or-cases (via e k p q) (via e k p k && via e k k q) h f (λ b. let r = and-parts (via e k p k) (via e k k q) b in g (r .0) (r .1))
 
   pub via-join : (k p x q : ℕ) → x < k → via e k p x ≡ true → via e k x q ≡ true → via e k p q ≡ true
   via-join zero p x q l g h = absurd (not-suc-le-zero l)
-  via-join (suc k) p x q l g h = by (eqb x k) (λ c. at-k (rw (eqb-true x k c) at g) (rw (eqb-true x k c) at h)) (λ c. below-k (λ y z. via-join k y x z (omega (arith, eqb-false x k c))))
+  via-join (suc k) p x q l g h =
+      by
+      (eqb x k)
+      (λ c. at-k (rw (eqb-true x k c) at g) (rw (eqb-true x k c) at h))
+      (λ c. below-k (λ y z. via-join k y x z (omega (arith, eqb-false x k c))))
     where
       at-k : via e (suc k) p k ≡ true → via e (suc k) k q ≡ true → via e (suc k) p q ≡ true
       at-k g′ h′ = via-through k p q (via-split k p k g′ (λ a. a) (λ a b. a)) (via-split k k q h′ (λ a. a) (λ a b. b))
@@ -51,7 +56,9 @@ module _ (e : ℕ → ℕ → Bool) where
   pub via-least : (P : ℕ → ℕ → Type 0) → ((p q : ℕ) → e p q ≡ true → P p q) → ((p x q : ℕ) → P p x → P x q → P p q) → (k p q : ℕ)
       → via e k p q ≡ true → P p q
   via-least P link join zero p q h = link p q h
-  via-least P link join (suc k) p q h = via-split k p q h (λ a. via-least P link join k p q a) (λ a b. join p k q (via-least P link join k p k a) (via-least P link join k k q b))
+  via-least P link join (suc k) p q h =
+      via-split k p q h (λ a. via-least P link join k p q a)
+      (λ a b. join p k q (via-least P link join k p k a) (via-least P link join k k q b))
 
 module _ (s : System) where
   -- paths
@@ -73,11 +80,15 @@ module _ (s : System) where
 
   link-of-step : (p a : ℕ) → a < s .letters → s .go p a < s .states → linked s p (s .go p a) ≡ true
   unfolding linked
-  link-of-step p a l t = and-both (ltb (s .go p a) (s .states)) (anyBelow (s .letters) (λ b. eqb (s .go p b) (s .go p a))) (lt-ltb (s .go p a) (s .states) t) (below-intro (s .letters) (λ b. eqb (s .go p b) (s .go p a)) a l (eq-eqb (s .go p a) (s .go p a) refl))
+  link-of-step p a l t =
+      and-both (ltb (s .go p a) (s .states)) (anyBelow (s .letters) (λ b. eqb (s .go p b) (s .go p a))) (lt-ltb (s .go p a) (s .states) t)
+      (below-intro (s .letters) (λ b. eqb (s .go p b) (s .go p a)) a l (eq-eqb (s .go p a) (s .go p a) refl))
 
   reaches-leads : (p q : ℕ) → reaches s p q ≡ true → Leads p q
   unfolding reaches
-  reaches-leads p q h = or-cases (eqb p q) (via (linked s) (s .states) p q) h (λ e. ([], rw (eqb-true p q e) here)) (λ v. via-least (linked s) Leads link-leads (λ a x b f g. (f .0 ++ g .0, path-append (f .1) (g .1))) (s .states) p q v)
+  reaches-leads p q h =
+      or-cases (eqb p q) (via (linked s) (s .states) p q) h (λ e. ([], rw (eqb-true p q e) here))
+      (λ v. via-least (linked s) Leads link-leads (λ a x b f g. (f .0 ++ g .0, path-append (f .1) (g .1))) (s .states) p q v)
 
   pub path-reaches : {p : ℕ} {w : List ℕ} {q : ℕ} → Path s p w q → reaches s p q ≡ true
   unfolding reaches
@@ -94,7 +105,8 @@ module _ (s : System) where
   -- components
   pub together-view : (p q : ℕ) → (together s p q ≡ true) ↔ (Leads p q × Leads q p)
   unfolding together
-  together-view p q = (λ h. let r = and-parts (reaches s p q) (reaches s q p) h in (reaches-leads p q (r .0), reaches-leads q p (r .1)), λ l. and-both (reaches s p q) (reaches s q p) (path-reaches (l .0 .1)) (path-reaches (l .1 .1)))
+  together-view p q =
+      (λ h. let r = and-parts (reaches s p q) (reaches s q p) h in (reaches-leads p q (r .0), reaches-leads q p (r .1)), λ l. and-both (reaches s p q) (reaches s q p) (path-reaches (l .0 .1)) (path-reaches (l .1 .1)))
 
   pub together-refl : (p : ℕ) → together s p p ≡ true
   together-refl p = together-view p p .1 (([], here), ([], here))
@@ -117,7 +129,8 @@ module _ (s : System) where
   component-least q p h = least-least (s .states) 0 (together s q) p (omega arith) h
 
   pub component-same : (p q : ℕ) → p < s .states → q < s .states → (together s p q ≡ true) ↔ (componentOf s p ≡ componentOf s q)
-  component-same p q lp lq = (λ h. le-antisymm (below p q lq h) (below q p lp (together-sym p q h)), λ e. together-trans p (componentOf s p) q (component-together p lp) (together-sym q (componentOf s p) (rw e (component-together q lq))))
+  component-same p q lp lq =
+      (λ h. le-antisymm (below p q lq h) (below q p lp (together-sym p q h)), λ e. together-trans p (componentOf s p) q (component-together p lp) (together-sym q (componentOf s p) (rw e (component-together q lq))))
     where
       below : (x y : ℕ) → y < s .states → together s x y ≡ true → componentOf s x ≤ componentOf s y
       below x y l h = component-least x (componentOf s y) (together-trans x y (componentOf s y) h (component-together y l))
@@ -125,11 +138,14 @@ module _ (s : System) where
   -- inside transitions
   pub inside-of-return : {p a : ℕ} {w : List ℕ} → a < s .letters → s .go p a < s .states → Path s (s .go p a) w p → isInside s p a ≡ true
   unfolding isInside
-  inside-of-return {p} {a} {w} l t back = and-both (ltb (s .go p a) (s .states)) (together s p (s .go p a)) (lt-ltb (s .go p a) (s .states) t) (together-view p (s .go p a) .1 ((a ∷ [], step l t here), (w, back)))
+  inside-of-return {p} {a} {w} l t back =
+      and-both (ltb (s .go p a) (s .states)) (together s p (s .go p a)) (lt-ltb (s .go p a) (s .states) t)
+      (together-view p (s .go p a) .1 ((a ∷ [], step l t here), (w, back)))
 
   pub inside-parts : (p a : ℕ) → isInside s p a ≡ true → (s .go p a < s .states) × (together s p (s .go p a) ≡ true)
   unfolding isInside
-  inside-parts p a h = let r = and-parts (ltb (s .go p a) (s .states)) (together s p (s .go p a)) h in (ltb-true (s .go p a) (s .states) (r .0), r .1)
+  inside-parts p a h =
+      let r = and-parts (ltb (s .go p a) (s .states)) (together s p (s .go p a)) h in (ltb-true (s .go p a) (s .states) (r .0), r .1)
 
   pub record Met (b : ℕ → ℕ → Bool) (q : ℕ) : Type 0 where
     pub state : ℕ
@@ -142,7 +158,8 @@ module _ (s : System) where
 
   pub met-view : (b : ℕ → ℕ → Bool) (q : ℕ) → (metWithin s b q ≡ true) ↔ Met b q
   unfolding metWithin
-  met-view b q = (found, λ m. below-intro (s .states) atState (m .state) (m .is-state) (and-both (together s q (m .state)) (anyBelow (s .letters) (byLetter (m .state))) (m .near) (below-intro (s .letters) (byLetter (m .state)) (m .letter) (m .is-letter) (and-both (isInside s (m .state) (m .letter)) (b (m .state) (m .letter)) (m .inside) (m .passes)))))
+  met-view b q =
+      (found, λ m. below-intro (s .states) atState (m .state) (m .is-state) (and-both (together s q (m .state)) (anyBelow (s .letters) (byLetter (m .state))) (m .near) (below-intro (s .letters) (byLetter (m .state)) (m .letter) (m .is-letter) (and-both (isInside s (m .state) (m .letter)) (b (m .state) (m .letter)) (m .inside) (m .passes)))))
     where
       byLetter : ℕ → ℕ → Bool
       byLetter p a = isInside s p a && b p a
@@ -162,4 +179,7 @@ module _ (s : System) where
   met-same b p q t = bool-ext (metWithin s b p) (metWithin s b q) (carried p q (together-sym p q t)) (carried q p t)
     where
       carried : (x y : ℕ) → together s y x ≡ true → metWithin s b x ≡ true → metWithin s b y ≡ true
-      carried x y e h = let m = met-view b x .0 h in met-view b y .1 (record { state = m .state; letter = m .letter; is-state = m .is-state; is-letter = m .is-letter; near = together-trans y x (m .state) e (m .near); inside = m .inside; passes = m .passes })
+      carried x y e h =
+          let m = met-view b x .0 h in
+          met-view b y .1
+          (record { state = m .state; letter = m .letter; is-state = m .is-state; is-letter = m .is-letter; near = together-trans y x (m .state) e (m .near); inside = m .inside; passes = m .passes })

@@ -100,4 +100,6 @@ taken-word m lead l h =
 -- ---- a parity table that is taken
 pub parity-none : (n m : ℕ) (ts ps : List ℕ) → 1 ≤ n → n ≤ maxRows → 1 ≤ m → m ≤ maxLetters → n * m ≤ length ts → n * m ≤ length ps
     → targetFault n noRow (take (n * m) ts) ≡ false → parityFault n m ts ps ≡ 0
-parity-none n m ts ps n1 nm m1 mm lt lp h = rw (ne-eqb n 0 (λ e. omega arith), le-ltb maxRows n nm, ne-eqb m 0 (λ e. omega arith), le-ltb maxLetters m mm, le-ltb (length ts) (n * m) lt, le-ltb (length ps) (n * m) lp, h)
+parity-none n m ts ps n1 nm m1 mm lt lp h =
+    rw
+    (ne-eqb n 0 (λ e. omega arith), le-ltb maxRows n nm, ne-eqb m 0 (λ e. omega arith), le-ltb maxLetters m mm, le-ltb (length ts) (n * m) lt, le-ltb (length ps) (n * m) lp, h)

@@ -72,7 +72,8 @@ module _ (s : System) where
 
   pub goes-path : {p : ℕ} {w : List ℕ} {q : ℕ} (n : ℕ) → Path s p w q → goesBy s (standing false p n) w ≡ standing false q (length w + n)
   goes-path {q} n here = rw zero-add
-  goes-path {p} {q} n (step {a = a} {w = w} l t r) = rw (lt-leb (s .states) (s .go p a) t) (goes-path (suc n) r ∙ ap (standing false q) (omega arith))
+  goes-path {p} {q} n (step {a = a} {w = w} l t r) =
+      rw (lt-leb (s .states) (s .go p a) t) (goes-path (suc n) r ∙ ap (standing false q) (omega arith))
 
   pub goes-stop : {p : ℕ} {w : List ℕ} (n : ℕ) (x : Stop s p w)
       → goesBy s (standing false p n) w ≡ standing true (x .place) (length (x .before) + n)
@@ -81,7 +82,21 @@ module _ (s : System) where
       ∙ ap (λ (z : At). goesBy s z (x .next ∷ x .later)) (goes-path n (x .path)) ∙ halted
     where
       halted : goesBy s (standing false (x .place) (length (x .before) + n)) (x .next ∷ x .later) ≡ standing true (x .place) (length (x .before) + n)
-      halted = rw (le-leb (s .states) (s .go (x .place) (x .next)) (x .absent)) (goes-stopped (x .later) (x .place) (length (x .before) + n))
+      halted =
+          rw (le-leb (s .states) (s .go (x .place) (x .next)) (x .absent)) (goes-stopped (x .later) (x .place) (length (x .before) + n))
+
+  stop-behind : {p a : ℕ} {w : List ℕ} → a < s .letters → s .go p a < s .states → Stop s (s .go p a) w → Stop s p (a ∷ w)
+  stop-behind {a = a} l t x =
+      record {
+        before = a ∷ x .before;
+        next = x .next;
+        later = x .later;
+        place = x .place;
+        piece = ap (λ (z : List ℕ). a ∷ z) (x .piece);
+        path = step l t (x .path);
+        letter = x .letter;
+        absent = x .absent;
+      }
 
   pub goes-view : (w : List ℕ) (p : ℕ) → strayLetter (s .letters) w ≡ false → ((q : ℕ) × Path s p w q) ⊎ Stop s p w
   goes-view [] p h = inl (p, here)
@@ -91,7 +106,8 @@ module _ (s : System) where
       by
       (leb (s .states) (s .go p a))
       (λ e. inr (record { before = []; next = a; later = w; place = p; piece = refl; path = here; letter = l; absent = leb-true (s .states) (s .go p a) e }))
-      (λ e. let t = leb-false (s .states) (s .go p a) e in ⊎-elim (λ g. inl (g .0, step l t (g .1))) (λ x. inr (record { before = a ∷ x .before; next = x .next; later = x .later; place = x .place; piece = ap (λ (z : List ℕ). a ∷ z) (x .piece); path = step l t (x .path); letter = x .letter; absent = x .absent })) (goes-view w (s .go p a) (r .1)))
+      (λ e. let t = leb-false (s .states) (s .go p a) e in
+      ⊎-elim (λ g. inl (g .0, step l t (g .1))) (λ x. inr (stop-behind l t x)) (goes-view w (s .go p a) (r .1)))
 
   -- a word that is read to its end meets no missing transition
   pub path-or-stop : {p : ℕ} {w : List ℕ} {q : ℕ} → Path s p w q → Stop s p w → ⊥
@@ -100,7 +116,9 @@ module _ (s : System) where
   -- a run that stopped stays where it stopped, however much of the word follows
   stop-longer : {p : ℕ} {w : List ℕ} (v : List ℕ) (x : Stop s p w)
       → goesBy s (standing false p 0) (w ++ v) ≡ goesBy s (standing false p 0) w
-  stop-longer {p} {w} v x = goes-append w v (standing false p 0) ∙ ap (λ (z : At). goesBy s z v) (goes-stop 0 x) ∙ goes-stopped v (x .place) (length (x .before) + 0) ∙ sym (goes-stop 0 x)
+  stop-longer {p} {w} v x =
+      goes-append w v (standing false p 0) ∙ ap (λ (z : At). goesBy s z v) (goes-stop 0 x)
+      ∙ goes-stopped v (x .place) (length (x .before) + 0) ∙ sym (goes-stop 0 x)
 
   pub pass-append : (u v : List ℕ) (p : ℕ) → passFrom s p (u ++ v) ≡ passFrom s p u ++ passFrom s (follow u p) v
   pass-append [] v p = refl
@@ -124,7 +142,9 @@ module _ (s : System) where
     pub path-turns : (n : ℕ) {p q : ℕ} → Path s p (repeated n l) q → (r : ℕ) → r < n → Path s (turn r p) l (turn (suc r) p)
     path-turns zero a r h = absurd (omega arith)
     path-turns (suc n) {p} a zero h = let b = path-split l a in rw (path-end (b .1)) (b .1)
-    path-turns (suc n) {p} a (suc r) h = let b = path-split l a in let c = path-turns n (rw (← path-end (b .1)) at (b .2)) r (omega arith) in rw (iter-shift (follow l) r p) at c
+    path-turns (suc n) {p} a (suc r) h =
+        let b = path-split l a in
+        let c = path-turns n (rw (← path-end (b .1)) at (b .2)) r (omega arith) in rw (iter-shift (follow l) r p) at c
 
     turns-below : {p q : ℕ} → p < s .states → Path s p (repeated (s .states) l) q → (r : ℕ) → r ≤ s .states → turn r p < s .states
     turns-below b a zero h = b
@@ -132,7 +152,15 @@ module _ (s : System) where
 
     -- two repetitions that begin at the same state
     steady-from : {p q : ℕ} → Path s p (repeated (s .states) l) q → (i j : ℕ) → i < j → j ≤ s .states → turn i p ≡ turn j p → Steady p
-    steady-from {p} a i j below within same = record { reads-on = λ r. by (ltb r (s .states)) (λ e. path-turns (s .states) a r (ltb-true r (s .states) e)) (λ e. late r (ltb-false r (s .states) e)); begin = i; period = j - i; some = omega arith; early = omega arith; round = round }
+    steady-from {p} a i j below within same =
+        record {
+          reads-on = λ r. by (ltb r (s .states)) (λ e. path-turns (s .states) a r (ltb-true r (s .states) e)) (λ e. late r (ltb-false r (s .states) e));
+          begin = i;
+          period = j - i;
+          some = omega arith;
+          early = omega arith;
+          round = round;
+        }
       where
         round : turn (j - i) (turn i p) ≡ turn i p
         round = let e : j - i + i ≡ j = omega arith in sym (iter-add (follow l) (j - i) i p) ∙ ap (λ (z : ℕ). turn z p) e ∙ sym same
@@ -154,7 +182,8 @@ module _ (s : System) where
 
     pub steady-later : {p : ℕ} → Steady p → (i r : ℕ) → Path s (turn i p) (repeated r l) (turn r (turn i p))
     steady-later st i zero = here
-    steady-later {p} st i (suc r) = rw (repeated-more r l) (path-append s (steady-later st i r) (rw (iter-add (follow l) r i p) at (st .reads-on (r + i))))
+    steady-later {p} st i (suc r) =
+        rw (repeated-more r l) (path-append s (steady-later st i r) (rw (iter-add (follow l) r i p) at (st .reads-on (r + i))))
 
     module _ (b : Taken → Bool) where
       -- the repetition that begins at p takes a transition that passes b
@@ -166,12 +195,16 @@ module _ (s : System) where
 
       turns-find : (w p : ℕ) → any b (passFrom s p (repeated w l)) ≡ true → (k : ℕ) × (k < w) × (takes (turn k p) ≡ true)
       turns-find zero p h = absurd (false≢true h)
-      turns-find (suc w) p h = or-cases (takes p) (any b (passFrom s (follow l p) (repeated w l))) (sym (takes-more w p) ∙ h) (λ e. (0, omega arith, e)) (λ e. let r = turns-find w (follow l p) e in (suc (r .0), omega arith, rw (← iter-shift (follow l) (r .0) p) (r .2)))
+      turns-find (suc w) p h =
+          or-cases (takes p) (any b (passFrom s (follow l p) (repeated w l))) (sym (takes-more w p) ∙ h) (λ e. (0, omega arith, e))
+          (λ e. let r = turns-find w (follow l p) e in (suc (r .0), omega arith, rw (← iter-shift (follow l) (r .0) p) (r .2)))
 
       turns-intro : (w p k : ℕ) → k < w → takes (turn k p) ≡ true → any b (passFrom s p (repeated w l)) ≡ true
       turns-intro zero p k h t = absurd (omega arith)
       turns-intro (suc w) p zero h t = takes-more w p ∙ or-left (takes p) (any b (passFrom s (follow l p) (repeated w l))) t
-      turns-intro (suc w) p (suc k) h t = takes-more w p ∙ or-right (takes p) (any b (passFrom s (follow l p) (repeated w l))) (turns-intro w (follow l p) k (omega arith) (rw (iter-shift (follow l) k p) t))
+      turns-intro (suc w) p (suc k) h t =
+          takes-more w p
+          ∙ or-right (takes p) (any b (passFrom s (follow l p) (repeated w l))) (turns-intro w (follow l p) k (omega arith) (rw (iter-shift (follow l) k p) t))
 
       -- from a repetition that begins where it begins again d later, d repetitions or more take exactly what recurs
       turns-window : (p i d w : ℕ) → 0 < d → d ≤ w → turn d (turn i p) ≡ turn i p
@@ -183,7 +216,10 @@ module _ (s : System) where
       -- the computed recurring transitions
       pub takes-recurring : {p : ℕ} (st : Steady p)
           → Recur (follow l) takes p ↔ (any b (passFrom s (turn (s .states) p) (repeated (s .states) l)) ≡ true)
-      takes-recurring {p} st = let e = st .early in turns-window p (s .states) (st .period) (s .states) (st .some) (omega arith) (round-later (follow l) (st .period) (st .begin) (s .states) p (omega arith) (st .round))
+      takes-recurring {p} st =
+          let e = st .early in
+          turns-window p (s .states) (st .period) (s .states) (st .some) (omega arith)
+          (round-later (follow l) (st .period) (st .begin) (s .states) p (omega arith) (st .round))
 
     recurring-window : {p : ℕ} (st : Steady p) (i d w : ℕ) → 0 < d → d ≤ w → turn d (turn i p) ≡ turn i p
         → SameSet (passFrom s (turn (s .states) p) (repeated (s .states) l)) (passFrom s (turn i p) (repeated w l))
@@ -222,7 +258,11 @@ module _ (s : System) where
 
     module _ (is-state : q < s .states) (lead-ok : strayLetter (s .letters) lead ≡ false) (l-ok : strayLetter (s .letters) l ≡ false) where
       pub run-view : Endless q lead l ⊎ Stop s q (lead ++ repeated (s .states) l)
-      run-view = ⊎-elim (λ g. let r = path-split lead (g .1) in inl (record { entry = r .0; path = r .1; on = steady l (path-below is-state (r .1)) (r .2) })) inr (goes-view (lead ++ repeated (s .states) l) q (any-append (λ a. leb (s .letters) a) lead (repeated (s .states) l) ∙ rw (lead-ok, repeated-letters (s .letters) (s .states) l l-ok)))
+      run-view =
+          ⊎-elim
+          (λ g. let r = path-split lead (g .1) in inl (record { entry = r .0; path = r .1; on = steady l (path-below is-state (r .1)) (r .2) }))
+          inr
+          (goes-view (lead ++ repeated (s .states) l) q (any-append (λ a. leb (s .letters) a) lead (repeated (s .states) l) ∙ rw (lead-ok, repeated-letters (s .letters) (s .states) l l-ok)))
 
       pub stops-view : (i : ℕ) → ((settled s q lead l .stopped ≡ true) × (settled s q lead l .read ≡ i)) ↔ MeetsMissing s q lead l i
       stops-view i = ⊎-elim endless stopped run-view
@@ -249,7 +289,8 @@ module _ (s : System) where
 
   pass-find : {p : ℕ} {w : List ℕ} {y : ℕ} (x : Taken) → Path s p w y → any (isTaken x) (passFrom s p w) ≡ true → OnPath p w x
   pass-find x here h = absurd (false≢true h)
-  pass-find {p} x (step {a = a} {w = w} l t r) h = or-cases (isTaken x (taken p a)) (any (isTaken x) (passFrom s (s .go p a) w)) h first (λ e. behind (pass-find x r e))
+  pass-find {p} x (step {a = a} {w = w} l t r) h =
+      or-cases (isTaken x (taken p a)) (any (isTaken x) (passFrom s (s .go p a) w)) h first (λ e. behind (pass-find x r e))
     where
       first : isTaken x (taken p a) ≡ true → OnPath p (a ∷ w) x
       first e =
@@ -259,7 +300,14 @@ module _ (s : System) where
           record { before = []; later = w; piece = rw j; path = rw i here; present = rw (i, j) t }
 
       behind : OnPath (s .go p a) w x → OnPath p (a ∷ w) x
-      behind y = record { before = a ∷ y .before; later = y .later; piece = ap (λ (z : List ℕ). a ∷ z) (y .piece); path = step l t (y .path); present = y .present }
+      behind y =
+          record {
+            before = a ∷ y .before;
+            later = y .later;
+            piece = ap (λ (z : List ℕ). a ∷ z) (y .piece);
+            path = step l t (y .path);
+            present = y .present;
+          }
 
   pass-intro : {p : ℕ} {w : List ℕ} (x : Taken) → OnPath p w x → any (isTaken x) (passFrom s p w) ≡ true
   pass-intro {p} x y =
@@ -272,7 +320,14 @@ module _ (s : System) where
     taken-view r x = (shown, λ h. met (pass-find x (e .on .reads-on r) h))
       where
         met : OnPath (turn l r (e .entry)) l x → TakenIn s q lead l r x
-        met y = record { before = y .before; later = y .later; piece = y .piece; path = path-append s (e .path) (path-append s (steady-path l (e .on) r) (y .path)); present = y .present }
+        met y =
+            record {
+              before = y .before;
+              later = y .later;
+              piece = y .piece;
+              path = path-append s (e .path) (path-append s (steady-path l (e .on) r) (y .path));
+              present = y .present;
+            }
 
         shown : TakenIn s q lead l r x → takes l (isTaken x) (turn l r (e .entry)) ≡ true
         shown y =
@@ -298,4 +353,6 @@ module _ (s : System) where
 
   pub recurs-view : (q : ℕ) (lead l : List ℕ) → q < s .states → strayLetter (s .letters) lead ≡ false → strayLetter (s .letters) l ≡ false
       → settled s q lead l .stopped ≡ false → (x : Taken) → (any (isTaken x) (recurring s q lead l) ≡ true) ↔ Recurs s q lead l x
-  recurs-view q lead l b lead-ok l-ok going x = ⊎-elim (λ e. endless-recurs q lead l e x) (λ y. clash (ap (λ (z : At). z .stopped) (goes-stop 0 y)) going) (run-view q lead l b lead-ok l-ok)
+  recurs-view q lead l b lead-ok l-ok going x =
+      ⊎-elim (λ e. endless-recurs q lead l e x) (λ y. clash (ap (λ (z : At). z .stopped) (goes-stop 0 y)) going)
+      (run-view q lead l b lead-ok l-ok)

@@ -26,11 +26,15 @@ any-map b f (x ∷ xs) = ap (λ (c : Bool). b (f x) || c) (any-map b f xs)
 -- lists of numbers, by their elements
 pub any-find : (b : ℕ → Bool) (xs : List ℕ) → any b xs ≡ true → (x : ℕ) × (isIn x xs ≡ true) × (b x ≡ true)
 any-find b [] h = absurd (false≢true h)
-any-find b (y ∷ ys) h = or-cases (b y) (any b ys) h (λ e. (y, or-left (eqb y y) (isIn y ys) (eq-eqb y y refl), e)) (λ e. let r = any-find b ys e in (r .0, or-right (eqb (r .0) y) (isIn (r .0) ys) (r .1), r .2))
+any-find b (y ∷ ys) h =
+    or-cases (b y) (any b ys) h (λ e. (y, or-left (eqb y y) (isIn y ys) (eq-eqb y y refl), e))
+    (λ e. let r = any-find b ys e in (r .0, or-right (eqb (r .0) y) (isIn (r .0) ys) (r .1), r .2))
 
 pub any-intro : (b : ℕ → Bool) (xs : List ℕ) (x : ℕ) → isIn x xs ≡ true → b x ≡ true → any b xs ≡ true
 any-intro b [] x i h = absurd (false≢true i)
-any-intro b (y ∷ ys) x i h = or-cases (eqb x y) (isIn x ys) i (λ e. or-left (b y) (any b ys) (rw (eqb-true x y e) at h)) (λ e. or-right (b y) (any b ys) (any-intro b ys x e h))
+any-intro b (y ∷ ys) x i h =
+    or-cases (eqb x y) (isIn x ys) i (λ e. or-left (b y) (any b ys) (rw (eqb-true x y e) at h))
+    (λ e. or-right (b y) (any b ys) (any-intro b ys x e h))
 
 pub any-none : (b : ℕ → Bool) (xs : List ℕ) (x : ℕ) → any b xs ≡ false → isIn x xs ≡ true → b x ≡ false
 any-none b xs x h i = by (b x) (λ e. clash (any-intro b xs x i e) h) (λ e. e)
@@ -38,11 +42,16 @@ any-none b xs x h i = by (b x) (λ e. clash (any-intro b xs x i e) h) (λ e. e)
 -- numbers below a bound
 pub below-find : (n : ℕ) (b : ℕ → Bool) → anyBelow n b ≡ true → (i : ℕ) × (i < n) × (b i ≡ true)
 below-find zero b h = absurd (false≢true h)
-below-find (suc n) b h = or-cases (b n) (anyBelow n b) h (λ e. (n, omega arith, e)) (λ e. let r = below-find n b e in (r .0, omega arith, r .2))
+below-find (suc n) b h =
+    or-cases (b n) (anyBelow n b) h (λ e. (n, omega arith, e)) (λ e. let r = below-find n b e in (r .0, omega arith, r .2))
 
 pub below-intro : (n : ℕ) (b : ℕ → Bool) (i : ℕ) → i < n → b i ≡ true → anyBelow n b ≡ true
 below-intro zero b i l h = absurd (not-suc-le-zero l)
-below-intro (suc n) b i l h = by (eqb i n) (λ e. or-left (b n) (anyBelow n b) (rw (eqb-true i n e) at h)) (λ e. or-right (b n) (anyBelow n b) (below-intro n b i (omega (arith, eqb-false i n e)) h))
+below-intro (suc n) b i l h =
+    by
+    (eqb i n)
+    (λ e. or-left (b n) (anyBelow n b) (rw (eqb-true i n e) at h))
+    (λ e. or-right (b n) (anyBelow n b) (below-intro n b i (omega (arith, eqb-false i n e)) h))
 
 -- the first number from i on that passes, where one does within f
 least-hit : (f i : ℕ) (b : ℕ → Bool) → b i ≡ true → least (suc f) i b ≡ i
@@ -57,23 +66,37 @@ apart b p q e = clash q (rw e at p)
 
 pub least-passes : (f i : ℕ) (b : ℕ → Bool) (j : ℕ) → i ≤ j → j < i + f → b j ≡ true → b (least f i b) ≡ true
 least-passes zero i b j l u h = absurd (omega arith)
-least-passes (suc f) i b j l u h = by (b i) (λ e. rw (least-hit f i b e) e) (λ e. let d = apart b e h in rw (least-miss f i b e) (least-passes f (suc i) b j (omega arith) (omega arith) h))
+least-passes (suc f) i b j l u h =
+    by
+    (b i)
+    (λ e. rw (least-hit f i b e) e)
+    (λ e. let d = apart b e h in rw (least-miss f i b e) (least-passes f (suc i) b j (omega arith) (omega arith) h))
 
 pub least-least : (f i : ℕ) (b : ℕ → Bool) (k : ℕ) → i ≤ k → b k ≡ true → least f i b ≤ k
 least-least zero i b k l h = l
-least-least (suc f) i b k l h = by (b i) (λ e. rw (least-hit f i b e) l) (λ e. let d = apart b e h in rw (least-miss f i b e) (least-least f (suc i) b k (omega arith) h))
+least-least (suc f) i b k l h =
+    by
+    (b i)
+    (λ e. rw (least-hit f i b e) l)
+    (λ e. let d = apart b e h in rw (least-miss f i b e) (least-least f (suc i) b k (omega arith) h))
 
 -- the largest of a set
 pub largest-over : {A : Type 0} (g : A → ℕ) (xs : List A) (n : ℕ) → any (λ x. ltb n (g x)) xs ≡ true → n < largest g xs
 largest-over g [] n h = absurd (false≢true h)
-largest-over g (x ∷ xs) n h = or-cases (ltb n (g x)) (any (λ y. ltb n (g y)) xs) h (λ e. omega (arith, ltb-true n (g x) e)) (λ e. omega (arith, largest-over g xs n e))
+largest-over g (x ∷ xs) n h =
+    or-cases (ltb n (g x)) (any (λ y. ltb n (g y)) xs) h (λ e. omega (arith, ltb-true n (g x) e))
+    (λ e. omega (arith, largest-over g xs n e))
 
 pub largest-under : {A : Type 0} (g : A → ℕ) (xs : List A) (n : ℕ) → any (λ x. ltb n (g x)) xs ≡ false → largest g xs ≤ n
 largest-under g [] n h = omega arith
-largest-under g (x ∷ xs) n h = let r = or-none (ltb n (g x)) (any (λ y. ltb n (g y)) xs) h in omega (arith, ltb-false n (g x) (r .0), largest-under g xs n (r .1))
+largest-under g (x ∷ xs) n h =
+    let r = or-none (ltb n (g x)) (any (λ y. ltb n (g y)) xs) h in omega (arith, ltb-false n (g x) (r .0), largest-under g xs n (r .1))
 
 pub largest-same : {A : Type 0} (g : A → ℕ) (xs ys : List A) → SameSet xs ys → largest g xs ≡ largest g ys
-largest-same {A} g xs ys e = le-antisymm (largest-under g xs (largest g ys) (e (λ x. ltb (largest g ys) (g x)) ∙ none ys)) (largest-under g ys (largest g xs) (sym (e (λ x. ltb (largest g xs) (g x))) ∙ none xs))
+largest-same {A} g xs ys e =
+    le-antisymm (largest-under g xs (largest g ys) (e (λ x. ltb (largest g ys) (g x)) ∙ none ys))
+    (largest-under g ys (largest g xs) (sym (e (λ x. ltb (largest g xs) (g x))) ∙ none xs))
   where
     none : (zs : List A) → any (λ x. ltb (largest g zs) (g x)) zs ≡ false
-    none zs = by (any (λ x. ltb (largest g zs) (g x)) zs) (λ h. absurd (lt-irrefl (largest g zs) (largest-over g zs (largest g zs) h))) (λ h. h)
+    none zs =
+        by (any (λ x. ltb (largest g zs) (g x)) zs) (λ h. absurd (lt-irrefl (largest g zs) (largest-over g zs (largest g zs) h))) (λ h. h)

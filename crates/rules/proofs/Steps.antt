@@ -27,18 +27,32 @@ module _ {M : Type 0} (s : System) (k : Keeper M) (r : Row M) (a : ℕ) where
   step-crossing h i = rw (lt-leb (s .states) (s .go (r .source) a) h, i)
 
   pub step-there : s .go (r .source) a < s .states → stepOf s k r a .there ≡ true
-  step-there h = by (isInside s (r .source) a) (λ i. ap (λ (x : Step (Row M)). x .there) (step-inside h i)) (λ i. ap (λ (x : Step (Row M)). x .there) (step-crossing h i))
+  step-there h =
+      by
+      (isInside s (r .source) a)
+      (λ i. ap (λ (x : Step (Row M)). x .there) (step-inside h i))
+      (λ i. ap (λ (x : Step (Row M)). x .there) (step-crossing h i))
 
   pub step-source : s .go (r .source) a < s .states → stepOf s k r a .to .source ≡ s .go (r .source) a
-  step-source h = by (isInside s (r .source) a) (λ i. ap (λ (x : Step (Row M)). x .to .source) (step-inside h i)) (λ i. ap (λ (x : Step (Row M)). x .to .source) (step-crossing h i))
+  step-source h =
+      by
+      (isInside s (r .source) a)
+      (λ i. ap (λ (x : Step (Row M)). x .to .source) (step-inside h i))
+      (λ i. ap (λ (x : Step (Row M)). x .to .source) (step-crossing h i))
 
   pub step-present : stepOf s k r a .there ≡ true → s .go (r .source) a < s .states
-  step-present t = by (leb (s .states) (s .go (r .source) a)) (λ e. clash t (ap (λ (x : Step (Row M)). x .there) (step-missing (leb-true (s .states) (s .go (r .source) a) e)))) (λ e. leb-false (s .states) (s .go (r .source) a) e)
+  step-present t =
+      by
+      (leb (s .states) (s .go (r .source) a))
+      (λ e. clash t (ap (λ (x : Step (Row M)). x .there) (step-missing (leb-true (s .states) (s .go (r .source) a) e))))
+      (λ e. leb-false (s .states) (s .go (r .source) a) e)
 
 pub plan-same : {M : Type 0} (s : System) (start : ℕ) (k : Keeper M) → ((m m′ : M) → k .same m m′ ≡ true → m ≡ m′)
     → ((m : M) → k .same m m ≡ true) → SameIsEqual (planOf s start k)
 plan-same s start k equal self =
     record {
-      equal = λ x y h. let r = and-parts (eqb (x .source) (y .source)) (k .same (x .memory) (y .memory)) h in ap₂ row (eqb-true (x .source) (y .source) (r .0)) (equal (x .memory) (y .memory) (r .1));
-      self = λ x. and-both (eqb (x .source) (x .source)) (k .same (x .memory) (x .memory)) (eq-eqb (x .source) (x .source) refl) (self (x .memory));
+      equal =
+          λ x y h. let r = and-parts (eqb (x .source) (y .source)) (k .same (x .memory) (y .memory)) h in ap₂ row (eqb-true (x .source) (y .source) (r .0)) (equal (x .memory) (y .memory) (r .1));
+      self =
+          λ x. and-both (eqb (x .source) (x .source)) (k .same (x .memory) (x .memory)) (eq-eqb (x .source) (x .source) refl) (self (x .memory));
     }
