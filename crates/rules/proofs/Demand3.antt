@@ -17,12 +17,12 @@ use native.Mathlib.Omega.{arith}
 use lib.Dec.{eqb, ltb, leb}
 use lib.ListN.{length, getD, take, length-append}
 use lib.Seq.{take-at}
-use borrow.Author.Tests.{eqb-false, lt-ltb, leb-true, leb-false}
+use borrow.Author.Tests.{eqb-false, ltb-false, lt-ltb, leb-true, leb-false}
 use Rattle.rules.specs.Basics.{tabulate, joined, largest, isEven}
 use Rattle.rules.specs.Limits.{maxLetters, maxRows, noRow}
 use Rattle.rules.specs.Systems.{System, isInside, Path, here, step}
 use Rattle.rules.specs.Runs.{Taken, taken, passFrom, strayLetter, isClosedWalk, projected}
-use Rattle.rules.specs.Rows.{Step, Plan, SameIsEqual, Row, row, Keeper, stepOf, planOf, numberOf, rowsOf, isFull, rowAt, Reached, first-row, next-row, targetNumber, allTargets, allPriorities, sources}
+use Rattle.rules.specs.Rows.{Step, Plan, RowsAre, Row, row, Keeper, stepOf, planOf, numberOf, rowsOf, isFull, rowAt, Reached, first-row, next-row, targetNumber, allTargets, allPriorities, sources}
 use Rattle.rules.specs.Tables.{cell, targetFault}
 use Rattle.rules.specs.Judges.{judgedBy, paritySystem, priorityAt, parityGood, parityFault, wordFault, unlessRefused, parityJudge}
 use Rattle.rules.specs.Constructions.{memoryAfter, largestAlong, Lawful, Agree}
@@ -31,7 +31,7 @@ use Rattle.rules.proofs.Sets.{largest-same}
 use Rattle.rules.proofs.Reach.{path-append, Leads, inside-of-return}
 use Rattle.rules.proofs.Walks.{closed-path}
 use Rattle.rules.proofs.Agreement.{Projects, path-projects, words-agree}
-use Rattle.rules.proofs.Exploration.{rows-first, rows-some, rows-reached, rows-closed, rows-within, row-numbered}
+use Rattle.rules.proofs.Exploration.{rows-view}
 use Rattle.rules.proofs.Arrays.{tabulate-length, tabulate-at, tabulate-none, joined-length, joined-at, joined-none, mapped-at}
 use Rattle.rules.proofs.Steps.{step-missing, step-inside, step-crossing, step-there, step-source, step-present, plan-same}
 use Rattle.rules.proofs.Refusals.{TakenWord, taken-word, parity-none}
@@ -75,11 +75,16 @@ module _
       abbrev at : ℕ → Row M
       at i = rowAt g rs i
 
-      same : SameIsEqual g
-      same = plan-same s start k (law .same-equal) (law .same-refl)
+      found : RowsAre g c
+      found = rows-view g (plan-same s start k (law .same-equal) (law .same-refl)) c
+
+      -- a step that is there leads to a row of the table
+      step-found : (i a : ℕ) → i < length rs → a < s .letters → stepOf s k (at i) a .there ≡ true
+          → numberOf g (stepOf s k (at i) a .to) rs < length rs
+      step-found i a l la t = found .complete not-full (stepOf s k (at i) a .to) (next-row (found .reached i l) la t)
 
       rows-fit : (i : ℕ) → i < length rs → (at i .source < s .states) × Fits (at i .source) (at i .memory)
-      rows-fit i l = reached-fits (rows-reached g same c i l)
+      rows-fit i l = reached-fits (found .reached i l)
 
       -- one list of a cell for each letter, for each row
       rows-length : (h : Row M → ℕ → ℕ) → length (joined (λ r. tabulate (s .letters) 0 (h r)) rs) ≡ length rs * s .letters
@@ -123,15 +128,15 @@ module _
             → (P .go i a < length rs) × (at (P .go i a) ≡ stepOf s k (at i) a .to)
         target-there i a l la h =
             let t = step-there s k (at i) a h in
-            let n = rows-closed g same c not-full i a l la t in
+            let n = step-found i a l la t in
             let e : P .go i a ≡ numberOf g (stepOf s k (at i) a .to) rs = target-at i a l la ∙ rw t in
-            rw e (n, row-numbered g same c (stepOf s k (at i) a .to) n)
+            rw e (n, found .numbered (stepOf s k (at i) a .to) n)
 
         target-missing : (i a : ℕ) → i < length rs → a < s .letters → s .states ≤ s .go (source i) a → P .go i a ≡ noRow
         target-missing i a l la h = target-at i a l la ∙ rw (step-missing s k (at i) a h)
 
         few : length rs ≤ noRow
-        few = omega (arith, rows-within g same c not-full)
+        few = omega (arith, ltb-false c (length rs) not-full)
 
         -- a target is a row exactly if the transition is there
         present : (i a : ℕ) → i < length rs → a < s .letters → P .go i a < length rs → s .go (source i) a < s .states
@@ -199,8 +204,8 @@ module _
         looped-words-agree : (lead l : List ℕ) → 0 < length l → strayLetter (s .letters) lead ≡ false → strayLetter (s .letters) l ≡ false
             → judgedBy P 0 lead l (parityGood (s .letters) ps) ≡ judgedBy s start lead l good
         looped-words-agree lead l some lead-ok l-ok =
-            words-agree P s source projects (parityGood (s .letters) ps) good (λ xs ys e. ap isEven (largest-same (priorityAt (s .letters) ps) xs ys e)) (law .set-only) paths-agree 0 lead l (rows-some g same c) some lead-ok l-ok
-            ∙ ap (λ (r : Row M). judgedBy s (r .source) lead l good) (rows-first g same c)
+            words-agree P s source projects (parityGood (s .letters) ps) good (λ xs ys e. ap isEven (largest-same (priorityAt (s .letters) ps) xs ys e)) (law .set-only) paths-agree 0 lead l (found .some) some lead-ok l-ok
+            ∙ ap (λ (r : Row M). judgedBy s (r .source) lead l good) (found .first)
 
         -- ---- judges
         targets-taken : targetFault (length rs) noRow (take (length rs * s .letters) ts) ≡ false
@@ -215,12 +220,12 @@ module _
             taken-at i a l la =
                 by
                 (stepOf s k (at i) a .there)
-                (λ t. rw (t, lt-ltb (numberOf g (stepOf s k (at i) a .to) rs) (length rs) (rows-closed g same c not-full i a l la t)))
+                (λ t. rw (t, lt-ltb (numberOf g (stepOf s k (at i) a .to) rs) (length rs) (step-found i a l la t)))
                 (λ t. rw (t, or-right (ltb noRow (length rs)) true refl))
 
         parity-taken : 1 ≤ s .letters → s .letters ≤ maxLetters → parityFault (length rs) (s .letters) ts ps ≡ 0
         parity-taken some-letters most-letters =
-            parity-none (length rs) (s .letters) ts ps (rows-some g same c) (omega (arith, rows-within g same c not-full)) some-letters most-letters
+            parity-none (length rs) (s .letters) ts ps (found .some) (omega (arith, ltb-false c (length rs) not-full)) some-letters most-letters
             (simp length-append (omega (arith, rows-length (targetNumber g noRow rs))))
             (simp length-append (omega (arith, rows-length (λ r a. stepOf s k r a .prio))))
             targets-taken

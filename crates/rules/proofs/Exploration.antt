@@ -1,11 +1,9 @@
 -- What the exploration finds, over any plan whose sameness of rows is equality.
---     rows-first           the first row is number 0
---     rows-once            each row stands once: it has its own number
---     rows-discovered      rows are numbered in order of discovery
---     rows-all, rows-reached     every row found is reachable, and has whatever the first row has and steps keep
---     rows-closed          in a table that is not full every transition leads to a row of the table
---     reached-row          in a table that is not full every reachable row has its number
---     full-view            full exactly if more than c rows are reachable
+--     place-*        the place of the first element that passes a test
+--     Found          what holds of the rows found at a moment of the exploration
+--     found-met      one transition more keeps it
+--     explored       at the end all rows have been read, unless there are too many
+--     rows-view      the rows found are exactly the reachable ones, each once, in order of discovery; full exactly if more than c are reachable
 use mathlib.Core.Path.{_≡_, refl, sym, ap, _∙_, subst}
 use mathlib.Core.Logic.{_↔_, _⊎_, inl, inr, ⊎-elim}
 use mathlib.Core.Bool.{Bool, true, false, _&&_}
@@ -16,7 +14,7 @@ use lib.Dec.{ltb, leb}
 use lib.ListN.{length, getD, length-append, List·getD-append}
 use lib.Seq.{getD-append-seam}
 use borrow.Author.Tests.{ltb-true, ltb-false, leb-true, leb-false}
-use Rattle.rules.specs.Rows.{Plan, SameIsEqual, placeOf, numberOf, met, foundBy, foundFrom, rowsOf, isFull, rowAt, Reached, first-row, next-row, Distinct, Earlier, Discovered}
+use Rattle.rules.specs.Rows.{Plan, SameIsEqual, placeOf, numberOf, met, foundBy, foundFrom, rowsOf, isFull, rowAt, Reached, first-row, next-row, Distinct, Earlier, Discovered, MoreThan, RowsAre}
 use Rattle.rules.proofs.Bools.{by, clash, and-both, and-parts}
 use Rattle.rules.proofs.Pigeonhole.{pigeonhole}
 
@@ -256,79 +254,67 @@ module _ {A : Type 0} (g : Plan A) (law : SameIsEqual g) where
   unfolding rowsOf
   explored c = found-from (suc c) c first-found (omega arith)
 
-  -- ---- what holds of the rows found
+  -- ---- what the rows found are
   module _ (c : ℕ) where
     abbrev rs : List A
     rs = rowsOf g c
 
-    pub rows-some : 0 < length rs
-    rows-some = explored c .rows .some
+    some : 0 < length rs
+    some = explored c .rows .some
 
-    pub rows-first : rowAt g rs 0 ≡ g .first
-    rows-first = explored c .rows .front
+    first : rowAt g rs 0 ≡ g .first
+    first = explored c .rows .front
 
-    pub rows-once : (k : ℕ) → k < length rs → numberOf g (rowAt g rs k) rs ≡ k
-    rows-once = explored c .rows .once
+    once : (k : ℕ) → k < length rs → numberOf g (rowAt g rs k) rs ≡ k
+    once = explored c .rows .once
 
-    pub rows-discovered : (k : ℕ) → 0 < k → k < length rs → Discovered g rs k
-    rows-discovered = explored c .rows .ordered
+    numbered : (r : A) → numberOf g r rs < length rs → rowAt g rs (numberOf g r rs) ≡ r
+    numbered r l = sym (law .equal r (rowAt g rs (numberOf g r rs)) (place-found (g .same r) (g .first) rs l))
 
-    pub rows-distinct : Distinct g rs
-    rows-distinct i j l lj e =
-        let p = rows-once i (omega arith) in
-        let q = rows-once j lj in let z : i ≡ j = sym p ∙ ap (λ (r : A). numberOf g r rs) e ∙ q in omega arith
+    discovered : (k : ℕ) → 0 < k → k < length rs → Discovered g rs k
+    discovered = explored c .rows .ordered
 
-    -- whatever the first row has and steps keep
-    module _ (P : A → Type 0) (first : P (g .first)) (step : (r : A) (a : ℕ) → a < g .letters → P r → g .step r a .there ≡ true → P (g .step r a .to)) where
-      all-below : (n k : ℕ) → k < n → k < length rs → P (rowAt g rs k)
-      all-below zero k h l = absurd (omega arith)
-      all-below (suc n) zero h l = rw rows-first first
-      all-below (suc n) (suc k) h l =
-          let d = rows-discovered (suc k) (omega arith) l in
-          subst P (d .found)
-          (step (rowAt g rs (d .by-row)) (d .by-letter) (d .is-letter) (all-below n (d .by-row) (omega (arith, d .from-before)) (omega (arith, d .from-before))) (d .there))
+    distinct : Distinct g rs
+    distinct i j l lj e =
+        let z : i ≡ j = sym (once i (omega arith)) ∙ ap (λ (r : A). numberOf g r rs) e ∙ once j lj in
+        omega arith
 
-      pub rows-all : (k : ℕ) → k < length rs → P (rowAt g rs k)
-      rows-all k l = all-below (suc k) k (omega arith) l
+    reached-below : (n k : ℕ) → k < n → k < length rs → Reached g (rowAt g rs k)
+    reached-below zero k h l = absurd (omega arith)
+    reached-below (suc n) zero h l = rw first first-row
+    reached-below (suc n) (suc k) h l =
+        let d = discovered (suc k) (omega arith) l in
+        let before = d .from-before in
+        subst (Reached g) (d .found) (next-row (reached-below n (d .by-row) (omega arith) (omega arith)) (d .is-letter) (d .there))
 
-    pub rows-reached : (k : ℕ) → k < length rs → Reached g (rowAt g rs k)
-    rows-reached = rows-all (Reached g) first-row (λ r a l h t. next-row h l t)
+    reached : (k : ℕ) → k < length rs → Reached g (rowAt g rs k)
+    reached k l = reached-below (suc k) k (omega arith) l
 
-    -- a row is the one of its number
-    pub row-numbered : (r : A) → numberOf g r rs < length rs → rowAt g rs (numberOf g r rs) ≡ r
-    row-numbered r l = sym (law .equal r (rowAt g rs (numberOf g r rs)) (place-found (g .same r) (g .first) rs l))
+    complete : isFull g c ≡ false → {r : A} → Reached g r → numberOf g r rs < length rs
+    complete fits first-row =
+        let h = place-least (g .same (g .first)) (g .first) rs 0 some (rw first (law .self (g .first))) in
+        omega (arith, some)
+    complete fits (next-row {r = x} {a = a} h l t) =
+        let n = complete fits h in
+        let e = numbered x n in
+        let few = ltb-false c (length rs) fits in
+        let read : numberOf g x rs < explored c .read = ⊎-elim (λ m. omega arith) (λ m. omega arith) (explored c .ended) in
+        subst (λ (z : A). numberOf g (g .step z a .to) rs < length rs) e (explored c .rows .closed (numberOf g x rs) a (inl read) l n (rw e t))
 
-    module _ (fits : isFull g c ≡ false) where
-      pub rows-within : length rs ≤ c
-      rows-within = ltb-false c (length rs) fits
-
-      pub rows-closed : (j b : ℕ) → j < length rs → b < g .letters → g .step (rowAt g rs j) b .there ≡ true
-          → numberOf g (g .step (rowAt g rs j) b .to) rs < length rs
-      rows-closed j b lj lb t =
-          explored c .rows .closed j b (inl (⊎-elim (λ h. omega (arith, rows-within)) (λ h. omega arith) (explored c .ended))) lb lj t
-
-      pub reached-row : {r : A} → Reached g r → numberOf g r rs < length rs
-      reached-row first-row =
-          let h = place-least (g .same (g .first)) (g .first) rs 0 rows-some (rw rows-first (law .self (g .first))) in
-          omega (arith, rows-some)
-      reached-row (next-row {r = x} {a = a} h l t) =
-          let n = reached-row h in
-          let e = row-numbered x n in
-          subst (λ (z : A). numberOf g (g .step z a .to) rs < length rs) e (rows-closed (numberOf g x rs) a n l (rw e t))
-
-    pub full-view : (isFull g c ≡ true) ↔ ((xs : List A) × (c < length xs) × Distinct g xs × ((k : ℕ) → k < length xs → Reached g (rowAt g xs k)))
-    full-view =
-        (λ h. (rs, ltb-true c (length rs) h, rows-distinct, rows-reached), λ f. by (isFull g c) (λ e. e) (λ e. absurd (crowded e f)))
+    full : (isFull g c ≡ true) ↔ MoreThan g c
+    full = (λ h. record { many = rs; more = ltb-true c (length rs) h; distinct = distinct; reached = reached }, λ f. by (isFull g c) (λ e. e) (λ e. absurd (crowded e f)))
       where
-        crowded : isFull g c ≡ false
-            → (xs : List A) × (c < length xs) × Distinct g xs × ((k : ℕ) → k < length xs → Reached g (rowAt g xs k)) → ⊥
+        crowded : isFull g c ≡ false → MoreThan g c → ⊥
         crowded e f =
-            let xs = f .0 in
-            let few = rows-within e in
-            let n : ℕ → ℕ = λ k. numberOf g (rowAt g xs k) rs in
-            let p = pigeonhole (length rs) n (λ k l. reached-row e (f .3 k (omega (arith, f .1)))) in
-            let i = p .0 in
-            let j = p .1 in
-            let at-i = row-numbered (rowAt g xs i) (reached-row e (f .3 i (omega (arith, f .1, p .2, p .3)))) in
-            let at-j = row-numbered (rowAt g xs j) (reached-row e (f .3 j (omega (arith, f .1, p .3)))) in
-            f .2 i j (p .2) (omega (arith, f .1, p .3)) (sym at-i ∙ ap (rowAt g rs) (p .4) ∙ at-j)
+            let more = f .more in
+            let few = ltb-false c (length rs) e in
+            let n : ℕ → ℕ = λ k. numberOf g (rowAt g (f .many) k) rs in
+            let p = pigeonhole (length rs) n (λ k l. complete e (f .reached k (omega arith))) in
+            let below = p .2 in
+            let within = p .3 in
+            let at-i = numbered (rowAt g (f .many) (p .0)) (complete e (f .reached (p .0) (omega arith))) in
+            let at-j = numbered (rowAt g (f .many) (p .1)) (complete e (f .reached (p .1) (omega arith))) in
+            f .distinct (p .0) (p .1) below (omega arith) (sym at-i ∙ ap (rowAt g rs) (p .4) ∙ at-j)
+
+    pub rows-view : RowsAre g c
+    rows-view = record { some = some; first = first; once = once; numbered = numbered; discovered = discovered; reached = reached; complete = λ fits r h. complete fits h; full = full }

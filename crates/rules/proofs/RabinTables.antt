@@ -4,7 +4,7 @@
 --     moved-ordering       a move keeps an ordering
 --     reached-ordering     every reachable record is an ordering of the pairs that count in its component, for any number of pairs
 --     pair-counts          a pair that a closed walk satisfies counts where the walk runs
---     table-same           sameness of a table's rows is equality
+--     table-rows           the rows of a table's translation are exactly the reachable ones, each once, in order of discovery
 --     rabin-lawful         all that a construction must show
 use mathlib.Core.Path.{_≡_, refl, sym, ap, ap₂, _∙_, fun-ext}
 use mathlib.Core.Bool.{Bool, true, not, _&&_, false≢true, and-false}
@@ -17,7 +17,7 @@ use Rattle.rules.specs.Basics.{pick, any, SameSet, anyBelow, isIn, occur
 use Rattle.rules.specs.Systems.{System, together, isInside, Path, here, step}
 use Rattle.rules.specs.Runs.{Taken, passFrom}
 use Rattle.rules.specs.Records.{Marks, Rearranges, asTheyStood, moved, priority, movedAlong, largestPriority, satisfied, sameOrder}
-use Rattle.rules.specs.Rows.{Row, SameIsEqual, Reached}
+use Rattle.rules.specs.Rows.{Row, Reached, RowsAre}
 use Rattle.rules.specs.Constructions.{memoryAfter, largestAlong, Lawful}
 use Rattle.rules.specs.Tables.{Table, prohibits, requires, systemOf, counts, rising, isCounted, IsOrdering, marksOf, recordKeeper, tablePlan}
 use Rattle.rules.specs.Judges.{satisfiesPair, satisfies}
@@ -26,6 +26,7 @@ use Rattle.rules.proofs.Sets.{any-map, any-find, any-intro, below-find,
 use Rattle.rules.proofs.Reach.{Leads, path-append, together-view, inside-of-return, inside-parts, Met, met-view, met-same}
 use Rattle.rules.proofs.Runs.{path-below}
 use Rattle.rules.proofs.Appearance.{kept-occurs, keep-free, occurs-none, none-occurs, moved-occurs, closed-walk}
+use Rattle.rules.proofs.Exploration.{rows-view}
 use Rattle.rules.proofs.Steps.{plan-same}
 use Rattle.rules.proofs.Demand3.{reached-fits}
 
@@ -189,8 +190,9 @@ module _ (t : Table) where
             λ q o a w p f closed. ap isEven (largest-along (a ∷ w) q o) ∙ closed-walk asTheyStood stood-rearranges (marksOf t q a) (marksAlong (s .go q a) w) o (sym (memory-along (a ∷ w) q o) ∙ closed) ∙ some-satisfied q a w o p f;
       }
 
-  pub table-same : SameIsEqual (tablePlan t)
-  table-same = plan-same s (t .start) (recordKeeper t) same-order-equal same-order-refl
+  -- the rows of a table are exactly the reachable ones
+  pub table-rows : (c : ℕ) → RowsAre (tablePlan t) c
+  table-rows c = rows-view (tablePlan t) (plan-same s (t .start) (recordKeeper t) same-order-equal same-order-refl) c
 
   -- every reachable record is an ordering
   pub reached-ordering : t .start < t .states → {r : Row (List ℕ)} → Reached (tablePlan t) r → IsOrdering t (r .source) (r .memory)

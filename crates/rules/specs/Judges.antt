@@ -1,4 +1,4 @@
--- Both judges, their refusals, and the rest of a piece.
+-- Both judges (they decide whether an automaton accepts a looped word), their refusals, and the rest of a piece.
 --     Answer                     a judge's answer as document 01's number and value: 0 accepts, 1 rejects, 2 stops with the letters read,
 --                                3 refused with the refusal's number
 --     accepts, rejects, stops n, refused n     the four answers

@@ -16,9 +16,12 @@
 --     Earlier j b i a          row j is read by the letter b before row i is by a: rows by number, letters rising within each
 --     Discovered g rs k        row k is what a transition of an earlier row leads to, and every transition that is read earlier leads to
 --                              a row numbered below k
+--     MoreThan g c             more than c different rows are reachable
+--     RowsAre g c              what the rows found are: exactly the reachable ones, each once, in order of discovery, unless there are more
+--                              than c, which is full
 --     targetNumber g none rs r a     the number of the row to which r leads by a, `none` where the transition is missing
 --     allTargets, allPriorities     one list for each row, joined
---     Row                      a source state with a memory
+--     Row                      a source state with a memory (a state of the parity automaton)
 --     row q m                  the row of state q and memory m
 --     sources rs               the source state of each row
 --     Keeper                   a kind of memory: what it is where a component is entered, how it moves along an inside transition, the
@@ -28,7 +31,7 @@
 --     sameRow k r r′           the two have the same state and the same memory
 --     stepOf, planOf           the rows of a transition system with a keeper: missing, inside and crossing transitions, said once
 use mathlib.Core.Path.{_≡_}
-use mathlib.Core.Logic.{_⊎_}
+use mathlib.Core.Logic.{_↔_, _⊎_}
 use mathlib.Core.Bool.{Bool, true, false, _&&_}
 use mathlib.Core.List.{List, [], _∷_, _++_, map}
 use Prim.Native.Nat.{ℕ, zero, suc, _<_}
@@ -99,6 +102,25 @@ pub record Discovered {A : Type 0} (g : Plan A) (rs : List A) (k : ℕ) : Type 0
   pub found : g .step (rowAt g rs by-row) by-letter .to ≡ rowAt g rs k
   pub nothing-new : (j b : ℕ) → Earlier j b by-row by-letter → b < g .letters → g .step (rowAt g rs j) b .there ≡ true
       → numberOf g (g .step (rowAt g rs j) b .to) rs < k
+
+pub record MoreThan {A : Type 0} (g : Plan A) (c : ℕ) : Type 0 where
+  pub many : List A
+  pub more : c < length many
+  pub distinct : Distinct g many
+  pub reached : (k : ℕ) → k < length many → Reached g (rowAt g many k)
+
+pub record RowsAre {A : Type 0} (g : Plan A) (c : ℕ) : Type 0 where
+  pub some : 0 < length (rowsOf g c)
+  pub first : rowAt g (rowsOf g c) 0 ≡ g .first
+  -- each row stands once, and is the one of its number
+  pub once : (k : ℕ) → k < length (rowsOf g c) → numberOf g (rowAt g (rowsOf g c) k) (rowsOf g c) ≡ k
+  pub numbered : (r : A) → numberOf g r (rowsOf g c) < length (rowsOf g c) → rowAt g (rowsOf g c) (numberOf g r (rowsOf g c)) ≡ r
+  -- in order of discovery
+  pub discovered : (k : ℕ) → 0 < k → k < length (rowsOf g c) → Discovered g (rowsOf g c) k
+  -- the reachable rows, and all of them unless there are too many
+  pub reached : (k : ℕ) → k < length (rowsOf g c) → Reached g (rowAt g (rowsOf g c) k)
+  pub complete : isFull g c ≡ false → (r : A) → Reached g r → numberOf g r (rowsOf g c) < length (rowsOf g c)
+  pub full : (isFull g c ≡ true) ↔ MoreThan g c
 
 -- the arrays
 abbrev pub targetNumber : {A : Type 0} → Plan A → ℕ → List A → A → ℕ → ℕ

@@ -1,5 +1,6 @@
 -- Looped words and runs, recurring transitions, walks; over any transition system.
--- A looped word (an ultimately periodic word) is a lead-in and a loop that is repeated for ever.
+-- A looped word (an ultimately periodic word) is a lead-in (its finite prefix) and a loop (its period) that is repeated for ever.
+-- A transition recurs if it is among those that the run takes infinitely often.
 --     strayLetter m w            some byte of w is no letter
 --     At                         where a run stands: stopped or not, the state, the letters read
 --     standing b p n             stopped or not, at state p after n letters

@@ -1,4 +1,5 @@
--- The Rabin table of document 01: its bytes, its refusals, its components and its rows.
+-- The Rabin table of document 01 (a deterministic Rabin automaton with marks on its transitions): its bytes, its refusals, its
+-- components and its rows. A refusal is an error code; a table without one is taken.
 --     Table                    sizes, start, targets by cell, marks two by two: the prohibited byte, then the required byte
 --     cell m q a               the number of the cell of state q and letter a
 --     tableOf bs               the table that the bytes say
