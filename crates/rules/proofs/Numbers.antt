@@ -11,10 +11,10 @@ use lib.Dec.{leb}
 use borrow.Author.Tests.{leb-true, le-leb, not-false, not-true}
 use Rattle.rules.specs.Basics.{any, isIn}
 use Rattle.rules.specs.Records.{decimalFrom, decimal}
-use Rattle.rules.specs.Tables.{Table, counts, IsOrdering}
+use Rattle.rules.specs.Tables.{Table, IsOrdering}
 use Rattle.rules.proofs.Bools.{by, clash, or-none, and-both, and-parts}
 use Rattle.rules.proofs.Sets.{any-find}
-use Rattle.rules.proofs.RabinTables.{ordering-holds}
+use Rattle.rules.proofs.RabinTables.{counted-parts, ordering-holds}
 
 abbrev pub isDigit : ℕ → Bool
 isDigit i = leb 1 i && leb i 9
@@ -67,9 +67,8 @@ module _ (t : Table) (few : t .pairs ≤ 9) where
       stray : (i : ℕ) × (isIn i o ≡ true) × (not (isDigit i) ≡ true) → AllDigits o
       stray r =
           let i = r .0 in
-          let c = and-parts (leb 1 i) (leb i (t .pairs) && counts t q i) (sym (ordering-holds t q i o f) ∙ r .1) in
-          let k = and-parts (leb i (t .pairs)) (counts t q i) (c .1) in
-          clash (and-both (leb 1 i) (leb i 9) (c .0) (le-leb i 9 (omega (arith, leb-true i (t .pairs) (k .0))))) (not-true (isDigit i) (r .2))
+          let c = counted-parts t q i (sym (ordering-holds t q i o f) ∙ r .1) in
+          clash (and-both (leb 1 i) (leb i 9) (le-leb 1 i (c .0)) (le-leb i 9 (omega (arith, c .1)))) (not-true (isDigit i) (r .2))
 
   pub record-determined : (q q′ : ℕ) (o o′ : List ℕ) → IsOrdering t q o → IsOrdering t q′ o′ → decimal o ≡ decimal o′ → o ≡ o′
   record-determined q q′ o o′ f g e = decimal-determines o o′ (ordering-digits q o f) (ordering-digits q′ o′ g) e

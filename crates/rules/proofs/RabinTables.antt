@@ -8,23 +8,23 @@
 --     rabin-lawful         all that a construction must show
 use mathlib.Core.Path.{_≡_, refl, sym, ap, ap₂, _∙_, fun-ext}
 use mathlib.Core.Bool.{Bool, true, not, _&&_, false≢true, and-false}
-use mathlib.Core.List.{List, [], _∷_, _++_, map}
+use mathlib.Core.List.{List, [], _∷_, map}
 use Prim.Native.Nat.{ℕ, zero, suc, _+_, _-_, _≤_, _<_, max}
 use native.Mathlib.Omega.{arith}
 use lib.Dec.{eqb, leb}
 use borrow.Author.Tests.{eqb-true, eqb-false, eq-eqb, ne-eqb, leb-true, leb-false, le-leb}
 use Rattle.rules.specs.Basics.{pick, any, SameSet, anyBelow, isIn, occurs, keep, tabulate, isEven}
-use Rattle.rules.specs.Systems.{System, together, isInside, Path, here, step}
+use Rattle.rules.specs.Systems.{System, together, isInside, Path}
 use Rattle.rules.specs.Runs.{Taken, passFrom}
 use Rattle.rules.specs.Records.{Marks, Rearranges, asTheyStood, moved, priority, movedAlong, largestPriority, satisfied, sameOrder}
 use Rattle.rules.specs.Rows.{Row, Reached, RowsAre}
 use Rattle.rules.specs.Constructions.{memoryAfter, largestAlong, Lawful}
 use Rattle.rules.specs.Tables.{Table, prohibits, requires, systemOf, counts, rising, isCounted, IsOrdering, marksOf, recordKeeper, tablePlan}
 use Rattle.rules.specs.Judges.{satisfiesPair, satisfies}
-use Rattle.rules.proofs.Bools.{by, or-cases, and-both, and-parts, bool-ext}
+use Rattle.rules.proofs.Bools.{by, and-both, and-parts, bool-ext}
 use Rattle.rules.proofs.Sets.{any-map, any-find, any-intro, below-find, below-intro}
-use Rattle.rules.proofs.Reach.{Leads, path-append, together-view, inside-of-return, inside-parts, Met, met-view, met-same}
-use Rattle.rules.proofs.Runs.{path-below}
+use Rattle.rules.proofs.Reach.{inside-parts, met-view, met-same}
+use Rattle.rules.proofs.Walks.{closed-met}
 use Rattle.rules.proofs.Appearance.{kept-occurs, keep-free, occurs-none, none-occurs, moved-occurs, closed-walk}
 use Rattle.rules.proofs.Exploration.{rows-view}
 use Rattle.rules.proofs.Steps.{plan-same}
@@ -96,6 +96,15 @@ module _ (t : Table) where
       ordering-together q (s .go q a) (moved asTheyStood (prohibits t q a) o) (inside-parts s q a h .1)
       (λ i. moved-occurs asTheyStood stood-rearranges (prohibits t q a) i o ∙ f i)
 
+  pub counted-parts : (q i : ℕ) → isCounted t q i ≡ true → (1 ≤ i) × (i ≤ t .pairs) × (counts t q i ≡ true)
+  counted-parts q i h =
+      let a = and-parts (leb 1 i) (leb i (t .pairs) && counts t q i) h in
+      let b = and-parts (leb i (t .pairs)) (counts t q i) (a .1) in
+      (leb-true 1 i (a .0), leb-true i (t .pairs) (b .0), b .1)
+
+  counted-intro : (q i : ℕ) → 1 ≤ i → i ≤ t .pairs → counts t q i ≡ true → isCounted t q i ≡ true
+  counted-intro q i l h c = rw (le-leb 1 i l, le-leb i (t .pairs) h, c)
+
   -- what an ordering holds
   pub ordering-holds : (q i : ℕ) (o : List ℕ) → IsOrdering t q o → isIn i o ≡ isCounted t q i
   ordering-holds q i o f =
@@ -125,26 +134,11 @@ module _ (t : Table) where
       ap₂ (λ (b c : Bool). not b && c) (any-map (λ m. m .prohibited i) (λ x. marksOf t (x .from) (x .by)) (passFrom s q w))
       (any-map (λ m. m .required i) (λ x. marksOf t (x .from) (x .by)) (passFrom s q w))
 
-  -- a transition of a walk from q that leads back to q is an inside transition of q's component
-  walk-met : (b : ℕ → ℕ → Bool) (o : ℕ) {q : ℕ} {w : List ℕ} {y : ℕ} → q < s .states → Leads s o q → Path s q w y → Leads s y o
-      → any (λ x. b (x .from) (x .by)) (passFrom s q w) ≡ true → Met s b o
-  walk-met b o is-state out here back h = absurd (false≢true h)
-  walk-met b o {q} is-state out (step {a = a} {w = w} l n r) back h =
-      or-cases (b q a) (any (λ x. b (x .from) (x .by)) (passFrom s (s .go q a) w)) h
-      (λ e. record { state = q; letter = a; is-state = is-state; is-letter = l; near = together-view s o q .1 (out, (a ∷ (w ++ back .0), step l n (path-append s r (back .1)))); inside = inside-of-return s l n (path-append s (path-append s r (back .1)) (out .1)); passes = e })
-      (λ e. walk-met b o n (out .0 ++ (a ∷ []), path-append s (out .1) (one l n)) r back e)
-    where
-      one : a < s .letters → s .go q a < s .states → Path s q (a ∷ []) (s .go q a)
-      one l′ n′ = step l′ n′ here
-
-  closed-state : {q a : ℕ} {w : List ℕ} → Path s q (a ∷ w) q → q < s .states
-  closed-state (step l n r) = path-below s n r
-
   pub pair-counts : (q a i : ℕ) (w : List ℕ) → Path s q (a ∷ w) q → satisfiesPair t i (passFrom s q (a ∷ w)) ≡ true → counts t q i ≡ true
   pair-counts q a i w p h =
       let xs = passFrom s q (a ∷ w) in
       let r = and-parts (not (any (λ x. prohibits t (x .from) (x .by) i) xs)) (any (λ x. requires t (x .from) (x .by) i) xs) h in
-      met-view s (λ x b. requires t x b i) q .1 (walk-met (λ x b. requires t x b i) q (closed-state p) ([], here) p ([], here) (r .1))
+      met-view s (λ x b. requires t x b i) q .1 (closed-met s (λ x b. requires t x b i) p (r .1))
 
   -- some pair of an ordering is satisfied exactly if the table is
   some-satisfied : (q a : ℕ) (w o : List ℕ) → Path s q (a ∷ w) q → IsOrdering t q o
@@ -161,18 +155,17 @@ module _ (t : Table) where
       of-record h =
           let r = any-find (satisfied ms) o h in
           let i = r .0 in
-          let c = and-parts (leb 1 i) (leb i (t .pairs) && counts t q i) (sym (ordering-holds q i o f) ∙ r .1) in
-          let k = and-parts (leb i (t .pairs)) (counts t q i) (c .1) in
-          let pos = leb-true 1 i (c .0) in
-          let e : suc (i - 1) ≡ i = omega arith in
-          below-intro (t .pairs) (λ j. satisfiesPair t (suc j) xs) (i - 1) (omega (arith, leb-true i (t .pairs) (k .0))) (ap (λ (j : ℕ). satisfiesPair t j xs) e ∙ sym (satisfied-along (a ∷ w) q i) ∙ r .2)
+          let c = counted-parts q i (sym (ordering-holds q i o f) ∙ r .1) in
+          let e : suc (i - 1) ≡ i = omega (arith, c .0) in
+          below-intro (t .pairs) (λ j. satisfiesPair t (suc j) xs) (i - 1) (omega (arith, c .0, c .1))
+          (ap (λ (j : ℕ). satisfiesPair t j xs) e ∙ sym (satisfied-along (a ∷ w) q i) ∙ r .2)
 
       of-table : satisfies t xs ≡ true → any (satisfied ms) o ≡ true
       of-table h =
           let r = below-find (t .pairs) (λ j. satisfiesPair t (suc j) xs) h in
           let i = suc (r .0) in
-          let c = pair-counts q a i w p (r .2) in
-          any-intro (satisfied ms) o i (ordering-holds q i o f ∙ and-both (leb 1 i) (leb i (t .pairs) && counts t q i) (le-leb 1 i (omega arith)) (and-both (leb i (t .pairs)) (counts t q i) (le-leb i (t .pairs) (r .1)) c)) (satisfied-along (a ∷ w) q i ∙ r .2)
+          let c = counted-intro q i (omega arith) (r .1) (pair-counts q a i w p (r .2)) in
+          any-intro (satisfied ms) o i (ordering-holds q i o f ∙ c) (satisfied-along (a ∷ w) q i ∙ r .2)
 
   pair-set-only : (i : ℕ) (xs ys : List Taken) → SameSet xs ys → satisfiesPair t i xs ≡ satisfiesPair t i ys
   pair-set-only i xs ys e =

@@ -1,16 +1,20 @@
--- A closed walk is what some letters take from the state that it leaves.
---     ClosedPath, closed-path     the letters, and the path on which they lead back
+-- Closed walks, for any transition system.
+--     ClosedPath, closed-path     a closed walk is what some letters take on a path that leads back
+--     closed-met                  what some transition of a closed walk meets, some inside transition of its component meets
 use mathlib.Core.Path.{_≡_, refl, ap, subst}
-use mathlib.Core.Bool.{true, _&&_}
-use mathlib.Core.List.{List, [], _∷_}
+use mathlib.Core.Bool.{Bool, true, _&&_, false≢true}
+use mathlib.Core.List.{List, [], _∷_, _++_}
 use Prim.Native.Nat.{ℕ, suc, _<_}
 use native.Mathlib.Omega.{arith}
 use lib.Dec.{eqb, ltb}
 use lib.ListN.{length}
 use borrow.Author.Tests.{eqb-true, ltb-true}
+use Rattle.rules.specs.Basics.{any}
 use Rattle.rules.specs.Systems.{System, Path, here, step}
 use Rattle.rules.specs.Runs.{Taken, passFrom, goesFrom, endOf, isClosedWalk}
-use Rattle.rules.proofs.Bools.{clash, and-parts}
+use Rattle.rules.proofs.Bools.{clash, or-cases, and-parts}
+use Rattle.rules.proofs.Reach.{Leads, path-append, together-view, inside-of-return, Met}
+use Rattle.rules.proofs.Runs.{path-below}
 
 walk-path : (s : System) (xs : List Taken) (p : ℕ) → goesFrom s p xs ≡ true
     → (w : List ℕ) × (xs ≡ passFrom s p w) × Path s p w (endOf s p xs)
@@ -54,3 +58,30 @@ closed-path s (x ∷ xs) h =
       taken-by = r .1;
       path = subst (λ (z : ℕ). Path s p (r .0) z) (eqb-true (endOf s p (x ∷ xs)) p (g .1)) (r .2);
     }
+
+-- every transition of a walk that leads back is an inside transition of the component in which it runs
+module _ (s : System) (b : ℕ → ℕ → Bool) where
+  walk-met : (o : ℕ) {q : ℕ} {w : List ℕ} {y : ℕ} → q < s .states → Leads s o q → Path s q w y → Leads s y o
+      → any (λ x. b (x .from) (x .by)) (passFrom s q w) ≡ true → Met s b o
+  walk-met o is-state out here back h = absurd (false≢true h)
+  walk-met o {q} is-state out (step {a = a} {w = w} l t r) back h =
+      or-cases (b q a) (any (λ x. b (x .from) (x .by)) (passFrom s (s .go q a) w)) h
+      (λ e. record {
+        state = q;
+        letter = a;
+        is-state = is-state;
+        is-letter = l;
+        near = together-view s o q .1 (out, (a ∷ (w ++ back .0), step l t (path-append s r (back .1))));
+        inside = inside-of-return s l t (path-append s (path-append s r (back .1)) (out .1));
+        passes = e;
+      })
+      (λ e. walk-met o t (out .0 ++ (a ∷ []), path-append s (out .1) (one l t)) r back e)
+    where
+      one : a < s .letters → s .go q a < s .states → Path s q (a ∷ []) (s .go q a)
+      one l′ t′ = step l′ t′ here
+
+  pub closed-met : {q a : ℕ} {w : List ℕ} → Path s q (a ∷ w) q → any (λ x. b (x .from) (x .by)) (passFrom s q (a ∷ w)) ≡ true → Met s b q
+  closed-met {q} p h = walk-met q (closed-state p) ([], here) p ([], here) h
+    where
+      closed-state : {a : ℕ} {w : List ℕ} → Path s q (a ∷ w) q → q < s .states
+      closed-state (step l t r) = path-below s t r
