@@ -2,8 +2,9 @@
 --     any-append, any-map          tests over a joined and a mapped list
 --     any-find, any-intro, any-none     a test over a list of numbers, by its elements
 --     below-find, below-intro      a test over the numbers below a bound
---     least-view                   the first number that passes a test
---     largest-at-least, largest-at-most, largest-same     the largest of a set depends on the set alone
+--     apart                        a test that tells two numbers apart
+--     least-passes, least-least    the first number that passes a test
+--     largest-over, largest-under, largest-same     the largest of a set, from both sides; it depends on the set alone
 use mathlib.Core.Path.{_≡_, refl, sym, ap, _∙_}
 use mathlib.Core.Bool.{Bool, true, false, _||_, or-assoc, false≢true}
 use mathlib.Core.List.{List, [], _∷_, _++_, map}
