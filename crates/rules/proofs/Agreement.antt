@@ -13,7 +13,7 @@ use lib.ListN.{length, length-append}
 use Rattle.rules.specs.Basics.{pick, SameSet, repeated}
 use Rattle.rules.specs.Systems.{System, Path, here, step}
 use Rattle.rules.specs.Runs.{At, Taken, passFrom, strayLetter, settled, recurring, Stop, MeetsMissing}
-use Rattle.rules.specs.Judges.{accepts, rejects, stops, judgedBy}
+use Rattle.rules.specs.Answers.{accepts, rejects, stops, judgedBy}
 use Rattle.rules.proofs.Orbits.{iter-add}
 use Rattle.rules.proofs.Runs.{path-end, path-below, path-or-stop, turn, follow, steady-later, Endless, endless-path, endless-settled, endless-window, run-view, stops-view}
 

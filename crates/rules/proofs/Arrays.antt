@@ -12,7 +12,7 @@ use native.Mathlib.Omega.{arith}
 use lib.ListN.{length, getD, length-append, List·getD-append}
 use lib.Seq.{getD-append-add}
 use Rattle.rules.specs.Basics.{any, tabulate, joined}
-use Rattle.rules.specs.Tables.{cell}
+use Rattle.rules.specs.Systems.{cell}
 use Rattle.rules.proofs.Sets.{any-append}
 
 module _ {B : Type 0} (h : ℕ → B) where

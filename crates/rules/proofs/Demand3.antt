@@ -20,11 +20,12 @@ use lib.Seq.{take-at}
 use borrow.Author.Tests.{eqb-false, ltb-false, lt-ltb, leb-true, leb-false}
 use Rattle.rules.specs.Basics.{tabulate, joined, largest, isEven}
 use Rattle.rules.specs.Limits.{maxLetters, maxRows, noRow}
-use Rattle.rules.specs.Systems.{System, isInside, Path, here, step}
+use Rattle.rules.specs.Systems.{System, isInside, Path, here, step, cell}
 use Rattle.rules.specs.Runs.{Taken, taken, passFrom, strayLetter, isClosedWalk, projected}
 use Rattle.rules.specs.Rows.{Step, Plan, RowsAre, Row, row, Keeper, stepOf, planOf, numberOf, rowsOf, isFull, rowAt, Reached, first-row, next-row, targetNumber, allTargets, allPriorities, sources}
-use Rattle.rules.specs.Tables.{cell, targetFault}
-use Rattle.rules.specs.Judges.{judgedBy, paritySystem, priorityAt, parityGood, parityFault, wordFault, unlessRefused, parityJudge}
+use Rattle.rules.specs.Tables.{targetFault}
+use Rattle.rules.specs.Answers.{judgedBy, unlessRefused}
+use Rattle.rules.specs.Judges.{paritySystem, priorityAt, parityGood, parityFault, wordFault, parityJudge}
 use Rattle.rules.specs.Constructions.{memoryAfter, largestAlong, Lawful, Agree}
 use Rattle.rules.proofs.Bools.{by, or-right}
 use Rattle.rules.proofs.Sets.{largest-same}

@@ -21,7 +21,8 @@ use Rattle.rules.specs.Basics.{any, isIn}
 use Rattle.rules.specs.Limits.{maxRows}
 use Rattle.rules.specs.Records.{asTheyStood, moved, sameOrder}
 use Rattle.rules.specs.Tables.{tableOf, rising}
-use Rattle.rules.specs.Judges.{Answer, accepts, rejects, stops, rabinJudge, parityJudge}
+use Rattle.rules.specs.Answers.{Answer, accepts, rejects, stops}
+use Rattle.rules.specs.Judges.{rabinJudge, parityJudge}
 use Rattle.rules.specs.Claims.{tableRows, targets, priorities, sourceStates, recordNumbers}
 
 pub data Card : Type 0 where

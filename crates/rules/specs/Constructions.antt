@@ -14,7 +14,8 @@ use Rattle.rules.specs.Basics.{SameSet, isEven}
 use Rattle.rules.specs.Systems.{System, isInside, Path}
 use Rattle.rules.specs.Runs.{Taken, passFrom, strayLetter, isClosedWalk, projected}
 use Rattle.rules.specs.Rows.{Keeper}
-use Rattle.rules.specs.Judges.{judgedBy, paritySystem, parityGood, parityJudge, wordFault, unlessRefused}
+use Rattle.rules.specs.Answers.{judgedBy, unlessRefused}
+use Rattle.rules.specs.Judges.{paritySystem, parityGood, parityJudge, wordFault}
 
 abbrev pub memoryAfter : {M : Type 0} → System → Keeper M → ℕ → M → List ℕ → M
 memoryAfter s k q m [] = m

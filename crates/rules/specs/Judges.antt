@@ -1,8 +1,4 @@
 -- Both judges (they decide whether an automaton accepts a looped word), their refusals, and the rest of a piece.
---     Answer                     a judge's answer as document 01's number and value: 0 accepts, 1 rejects, 2 stops with the letters read,
---                                3 refused with the refusal's number
---     accepts, rejects, stops n, refused n     the four answers
---     judgedBy s q lead l good   stops, or accepts exactly if the recurring transitions are good
 --     satisfiesPair, satisfies   a set of transitions satisfies a pair (a Rabin pair), the table
 --     paritySystem n m ts        the transition system of a parity table of n rows
 --     priorityAt m ps x          the priority of a transition of a parity table
@@ -10,39 +6,20 @@
 --     rabinRun, parityRun        the answers to a word of letters, of any length
 --     wordFault m lead l         10 and 9
 --     parityFault n m ts ps      11
---     unlessRefused f x          the answer x, unless there is a refusal f
 --     rabinJudge, parityJudge    the answers with their refusals
 --     restOf lead l i            from place i of the word to the end of its piece
 use mathlib.Core.Bool.{Bool, not, _&&_, _||_}
 use mathlib.Core.List.{List}
 use Prim.Native.Nat.{ℕ, suc, _-_, _*_}
-use lib.Dec.{eqb, ltb, leb}
+use lib.Dec.{eqb, ltb}
 use lib.ListN.{length, getD, take, drop}
 use Rattle.rules.specs.Basics.{pick, any, anyBelow, firstOf, when, largest, isEven}
 use Rattle.rules.specs.Limits.{maxLetters, maxRows, maxPiece, noRow}
 use Rattle.rules.specs.Refusals as Refusal
-use Rattle.rules.specs.Systems.{System}
-use Rattle.rules.specs.Runs.{Taken, strayLetter, settled, recurring}
-use Rattle.rules.specs.Tables.{Table, cell, tableOf, tableFault, targetFault, systemOf, prohibits, requires}
-
-pub record Answer : Type 0 where
-  pub word : ℕ
-  pub value : ℕ
-
-abbrev pub accepts : Answer
-accepts = record { word = 0; value = 0 }
-
-abbrev pub rejects : Answer
-rejects = record { word = 1; value = 0 }
-
-abbrev pub stops : ℕ → Answer
-stops n = record { word = 2; value = n }
-
-abbrev pub refused : ℕ → Answer
-refused n = record { word = 3; value = n }
-
-abbrev pub judgedBy : System → ℕ → List ℕ → List ℕ → (List Taken → Bool) → Answer
-judgedBy s q lead l good = pick (settled s q lead l .stopped) (stops (settled s q lead l .read)) (pick (good (recurring s q lead l)) accepts rejects)
+use Rattle.rules.specs.Systems.{System, cell}
+use Rattle.rules.specs.Runs.{Taken, strayLetter}
+use Rattle.rules.specs.Answers.{Answer, judgedBy, unlessRefused}
+use Rattle.rules.specs.Tables.{Table, tableOf, tableFault, targetFault, systemOf, prohibits, requires}
 
 -- the Rabin table
 abbrev pub satisfiesPair : Table → ℕ → List Taken → Bool
@@ -73,9 +50,6 @@ wordFault m lead l = firstOf (when (eqb (length l) 0 || (ltb maxPiece (length le
 
 abbrev pub parityFault : ℕ → ℕ → List ℕ → List ℕ → ℕ
 parityFault n m ts ps = when (eqb n 0 || (ltb maxRows n || (eqb m 0 || (ltb maxLetters m || (ltb (length ts) (n * m) || (ltb (length ps) (n * m) || targetFault n noRow (take (n * m) ts))))))) Refusal.parity
-
-abbrev pub unlessRefused : ℕ → Answer → Answer
-unlessRefused f x = pick (leb 1 f) (refused f) x
 
 abbrev pub rabinJudge : List ℕ → List ℕ → List ℕ → Answer
 rabinJudge bs lead l = unlessRefused (firstOf (tableFault bs) (wordFault (tableOf bs .letters) lead l)) (rabinRun (tableOf bs) lead l)

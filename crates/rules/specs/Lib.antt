@@ -4,6 +4,7 @@ pub mod Limits
 pub mod Refusals
 pub mod Systems
 pub mod Runs
+pub mod Answers
 pub mod Rows
 pub mod Records
 pub mod Tables

@@ -25,7 +25,8 @@ use Rattle.rules.specs.Limits.{maxRows}
 use Rattle.rules.specs.Refusals as Refusal
 use Rattle.rules.specs.Systems.{componentOf}
 use Rattle.rules.specs.Tables.{Table, tableOf, tableFault, systemOf}
-use Rattle.rules.specs.Judges.{Answer, rabinJudge, parityJudge, restOf}
+use Rattle.rules.specs.Answers.{Answer}
+use Rattle.rules.specs.Judges.{rabinJudge, parityJudge, restOf}
 use Rattle.rules.specs.Claims.{tableRows, targets, priorities, sourceStates, recordNumbers, exceeds, Agrees}
 
 abbrev pub CheckSays : List ℕ → ℕ → Type 0

@@ -1,7 +1,6 @@
 -- The Rabin table of document 01 (a deterministic Rabin automaton with marks on its transitions): its bytes, its refusals, its
 -- components and its rows. A refusal is an error code; a table without one is taken.
 --     Table                    sizes, start, targets by cell, marks two by two: the prohibited byte, then the required byte
---     cell m q a               the number of the cell of state q and letter a
 --     tableOf bs               the table that the bytes say
 --     targetOf t q a           where q goes by a; no state where the transition is missing, nor past the last cell
 --     prohibits t q a i        the transition of q by a has pair i's prohibited bit: it is in the pair's Fin set
@@ -26,7 +25,7 @@ use lib.ListN.{length, getD, take, drop}
 use Rattle.rules.specs.Basics.{pick, any, firstOf, when, occurs, keep, tabulate, bit}
 use Rattle.rules.specs.Limits.{maxStates, maxLetters, maxPairs, headerSize, noState}
 use Rattle.rules.specs.Refusals as Refusal
-use Rattle.rules.specs.Systems.{System, metWithin}
+use Rattle.rules.specs.Systems.{System, cell, metWithin}
 use Rattle.rules.specs.Records.{Marks, asTheyStood, moved, priority, sameOrder}
 use Rattle.rules.specs.Rows.{Keeper, Row, Plan, planOf}
 
@@ -37,9 +36,6 @@ pub record Table : Type 0 where
   pub start : ℕ
   pub targets : List ℕ
   pub marks : List ℕ
-
-abbrev pub cell : ℕ → ℕ → ℕ → ℕ
-cell m q a = q * m + a
 
 abbrev pub tableOf : List ℕ → Table
 tableOf bs =
