@@ -6,6 +6,7 @@
 --     after-moved                    behind a pair that is not prohibited a move only drops the prohibited ones
 --     drop-moved                     a tail in which nothing is prohibited stays as it is
 --     priority-none, priority-last   document 01's rule: the last pair with either mark decides the priority
+--     with-bounds                    one pair more cannot lower the priority found, nor lift it past its own position
 --     scan-*                         what the search for the priority can find, from any position on
 --     even-satisfied, satisfied-even the two halves of the theorem
 use mathlib.Core.Path.{_≡_, refl, sym, ap, _∙_}
@@ -19,7 +20,7 @@ use lib.ListN.{length, take, drop, length-append, length-drop, take-append-drop,
 use lib.Seq.{drop-at}
 use borrow.Author.Tests.{eqb-true, eqb-false, eq-eqb, leb-true, leb-false, not-true}
 use Rattle.rules.specs.Basics.{pick, any, isIn, occurs, keep, isEven}
-use Rattle.rules.specs.Records.{Marks, Rearranges, moved, priorityFrom, priority, movedAlong, largestPriority, satisfied}
+use Rattle.rules.specs.Records.{Marks, Rearranges, moved, priorityWith, priorityFrom, priority, movedAlong, largestPriority, satisfied}
 use Rattle.rules.proofs.Bools.{by, clash, or-cases, or-left, or-right, or-none, and-parts, bool-ext}
 use Rattle.rules.proofs.Sets.{any-append, any-find, any-intro, any-none}
 
@@ -43,10 +44,6 @@ module _ (p : ℕ → Bool) where
   pub keep-append : (o o′ : List ℕ) → keep p (o ++ o′) ≡ keep p o ++ keep p o′
   keep-append [] o′ = refl
   keep-append (i ∷ o) o′ = by (p i) (λ e. rw (e, keep-append o o′)) (λ e. rw (e, keep-append o o′))
-
-  pub keep-nothing : (o : List ℕ) → any p o ≡ false → keep p o ≡ []
-  keep-nothing [] h = refl
-  keep-nothing (i ∷ o) h = let r = or-none (p i) (any p o) h in rw (r .0, keep-nothing o (r .1))
 
   pub others-all : (o : List ℕ) → any p o ≡ false → others o ≡ o
   others-all [] h = refl
@@ -156,17 +153,13 @@ module _ (m : Marks) where
       → priority m (u ++ (i ∷ v)) ≡ pick (m .prohibited i) (suc (2 * (1 + length u))) (2 * (1 + length u))
   priority-last u i v h q = scan-last u i v 1 1 h q
 
-  -- the priority found after one pair more
-  abbrev found : ℕ → ℕ → ℕ → ℕ
-  found p i best = pick (m .prohibited i) (suc (2 * p)) (pick (m .required i) (2 * p) best)
-
-  found-bounds : (p i best : ℕ) → best < 2 * p → (best ≤ found p i best) × (found p i best < 2 * suc p)
-  found-bounds p i best h =
+  with-bounds : (p i best : ℕ) → best < 2 * p → (best ≤ priorityWith p m i best) × (priorityWith p m i best < 2 * suc p)
+  with-bounds p i best h =
       by (m .prohibited i) (λ e. rw e (omega arith)) (λ e. rw e (by (m .required i) (λ f. rw f (omega arith)) (λ f. rw f (omega arith))))
 
   pub scan-keeps : (o : List ℕ) (p best : ℕ) → best < 2 * p → best ≤ priorityFrom p m o best
   scan-keeps [] p best h = omega arith
-  scan-keeps (i ∷ o) p best h = let b = found-bounds p i best h in omega (arith, scan-keeps o (suc p) (found p i best) (b .1))
+  scan-keeps (i ∷ o) p best h = let b = with-bounds p i best h in omega (arith, scan-keeps o (suc p) (priorityWith p m i best) (b .1))
 
   pub scan-result : (o : List ℕ) (p best : ℕ) → best < 2 * p → (priorityFrom p m o best ≡ best) ⊎ (2 * p ≤ priorityFrom p m o best)
   scan-result [] p best h = inl refl
@@ -182,13 +175,13 @@ module _ (m : Marks) where
   scan-none-prohibited [] p zero best b h = refl
   scan-none-prohibited [] p (suc k) best b h = refl
   scan-none-prohibited (i ∷ o) p zero best b h =
-      let f = found-bounds p i best b in
+      let f = with-bounds p i best b in
       by
       (m .prohibited i)
       (λ e. absurd (omega (arith, rw e at h, scan-keeps o (suc p) (suc (2 * p)) (omega arith))))
-      (λ e. rw e (scan-none-prohibited o (suc p) zero (found p i best) (f .1) (omega arith)))
+      (λ e. rw e (scan-none-prohibited o (suc p) zero (priorityWith p m i best) (f .1) (omega arith)))
   scan-none-prohibited (i ∷ o) p (suc k) best b h =
-      scan-none-prohibited o (suc p) k (found p i best) (found-bounds p i best b .1) (omega arith)
+      scan-none-prohibited o (suc p) k (priorityWith p m i best) (with-bounds p i best b .1) (omega arith)
 
   -- a result of 2(p + k): something is required from the k-th on
   pub scan-some-required : (o : List ℕ) (p k best : ℕ) → best < 2 * p → priorityFrom p m o best ≡ 2 * (p + k)
@@ -199,7 +192,7 @@ module _ (m : Marks) where
       (m .prohibited i)
       (λ e. absurd (omega (arith, rw e at h, scan-keeps o (suc p) (suc (2 * p)) (omega arith))))
       (λ e. by (m .required i) (λ f. rw f) (λ f. let h′ = rw (e, f) at h in absurd (⊎-elim (λ (g : priorityFrom (suc p) m o best ≡ best). omega arith) (λ (g : 2 * suc p ≤ priorityFrom (suc p) m o best). omega arith) (scan-result o (suc p) best (omega arith)))))
-  scan-some-required (i ∷ o) p (suc k) best b h = scan-some-required o (suc p) k (found p i best) (found-bounds p i best b .1) (omega arith)
+  scan-some-required (i ∷ o) p (suc k) best b h = scan-some-required o (suc p) k (priorityWith p m i best) (with-bounds p i best b .1) (omega arith)
 
   -- nothing prohibited: the result is even, or what was found before
   scan-clean : (o : List ℕ) (p best : ℕ) → any (m .prohibited) o ≡ false
@@ -226,7 +219,7 @@ module _ (m : Marks) where
       by
       (eqb x y)
       (λ f. let g : q ≡ p = omega (arith, rw f at e) in rw (← eqb-true x y f, g) (scan-head x o p best b n (rw f at c)))
-      (λ f. scan-at x o (suc p) q (found p y best) (found-bounds p y best b .1) (rw f at i) n (rw f at c) (omega (arith, rw f at e)))
+      (λ f. scan-at x o (suc p) q (priorityWith p m y best) (with-bounds p y best b .1) (rw f at i) n (rw f at c) (omega (arith, rw f at e)))
 
 -- ---- moves
 module _ (arr : List ℕ → List ℕ) (law : Rearranges arr) where

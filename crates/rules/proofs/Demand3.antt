@@ -17,7 +17,7 @@ use native.Mathlib.Omega.{arith}
 use lib.Dec.{eqb, ltb, leb}
 use lib.ListN.{length, getD, take, length-append}
 use lib.Seq.{take-at}
-use borrow.Author.Tests.{eqb-false, ltb-false, lt-ltb, leb-true, leb-false}
+use borrow.Author.Tests.{ltb-false, lt-ltb, leb-true, leb-false}
 use Rattle.rules.specs.Basics.{tabulate, joined, largest, isEven}
 use Rattle.rules.specs.Limits.{maxLetters, maxRows, noRow}
 use Rattle.rules.specs.Systems.{System, isInside, Path, here, step, cell}
@@ -26,7 +26,7 @@ use Rattle.rules.specs.Rows.{Step, Plan, RowsAre, Row, row, Keeper, step
 use Rattle.rules.specs.Tables.{targetFault}
 use Rattle.rules.specs.Answers.{judgedBy, unlessRefused}
 use Rattle.rules.specs.Judges.{paritySystem, priorityAt, parityGood, parityFault, wordFault, parityJudge}
-use Rattle.rules.specs.Constructions.{memoryAfter, largestAlong, Lawful, Agree}
+use Rattle.rules.specs.Constructions.{memoryAfter, largestAlong, Lawful, Faithful}
 use Rattle.rules.proofs.Bools.{by, or-right}
 use Rattle.rules.proofs.Sets.{largest-same}
 use Rattle.rules.proofs.Reach.{path-append, Leads, inside-of-return}
@@ -238,9 +238,8 @@ module _
             (by (leb 1 (wordFault (s .letters) lead l)) (λ e. rw e) (λ e. rw e (heard (taken-word (s .letters) lead l (omega (arith, leb-false 1 (wordFault (s .letters) lead l) e))))))
           where
             heard : TakenWord (s .letters) lead l → judgedBy P 0 lead l (parityGood (s .letters) ps) ≡ judgedBy s start lead l good
-            heard w =
-                let e = eqb-false (length l) 0 (w .some-loop) in looped-words-agree lead l (omega arith) (w .lead-letters) (w .loop-letters)
+            heard w = looped-words-agree lead l (w .some-loop) (w .lead-letters) (w .loop-letters)
 
-        pub demand-3 : 1 ≤ s .letters → s .letters ≤ maxLetters → Agree s start good (length rs) ts ps ss
+        pub demand-3 : 1 ≤ s .letters → s .letters ≤ maxLetters → Faithful s start good (length rs) ts ps ss
         demand-3 some-letters most-letters =
             record { words = looped-words-agree; judges = judges-agree some-letters most-letters; walks = walks-agree }

@@ -190,8 +190,8 @@ module _ {A : Type 0} (g : Plan A) (law : SameIsEqual g) where
       (λ e. rw e)
 
   found-by : (n : ℕ) {i a : ℕ} {rs : List A} (r : A) → Found i a rs → rowAt g rs i ≡ r → i < length rs → a + n ≡ g .letters
-      → Found i (g .letters) (foundBy n a g r rs) × (i < length (foundBy n a g r rs))
-  found-by zero {i} {a} {rs} r f e l h = let z : a ≡ g .letters = omega arith in (rw z at f, l)
+      → Found i (g .letters) (foundBy n a g r rs)
+  found-by zero {i} {a} {rs} r f e l h = let z : a ≡ g .letters = omega arith in rw z at f
   found-by (suc n) {i} {a} {rs} r f e l h =
       found-by n r (rw e at (found-met f l (omega arith))) (met-row rs r a i l ∙ e) (omega (arith, met-longer rs r a)) (omega arith)
 
@@ -233,7 +233,7 @@ module _ {A : Type 0} (g : Plan A) (law : SameIsEqual g) where
   found-from (suc n) c {i} {rs} f h =
       by
       (ltb i (length rs) && leb (length rs) c)
-      (λ e. rw (from-on n i c rs e) (found-from n c (found-next (found-by (g .letters) (rowAt g rs i) f refl (ltb-true i (length rs) (and-parts (ltb i (length rs)) (leb (length rs) c) e .0)) (omega arith) .0)) (omega arith)))
+      (λ e. rw (from-on n i c rs e) (found-from n c (found-next (found-by (g .letters) (rowAt g rs i) f refl (ltb-true i (length rs) (and-parts (ltb i (length rs)) (leb (length rs) c) e .0)) (omega arith))) (omega arith)))
       (λ e. rw (from-end n i c rs e) (record { read = i; rows = f; ended = by (ltb i (length rs)) (λ p. inl (leb-false (length rs) c (rw p at e))) (λ p. inr (ltb-false i (length rs) p)) }))
 
   first-found : Found 0 0 (g .first ∷ [])

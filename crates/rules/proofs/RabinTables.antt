@@ -19,7 +19,7 @@ use Rattle.rules.specs.Runs.{Taken, passFrom}
 use Rattle.rules.specs.Records.{Marks, Rearranges, asTheyStood, moved, priority, movedAlong, largestPriority, satisfied, sameOrder}
 use Rattle.rules.specs.Rows.{Row, Reached, RowsAre}
 use Rattle.rules.specs.Constructions.{memoryAfter, largestAlong, Lawful}
-use Rattle.rules.specs.Tables.{Table, prohibits, requires, systemOf, counts, rising, isCounted, IsOrdering, marksOf, recordKeeper, tablePlan}
+use Rattle.rules.specs.Tables.{Table, prohibits, requires, systemOf, countsBy, counts, rising, isCounted, IsOrdering, marksOf, recordKeeper, tablePlan}
 use Rattle.rules.specs.Judges.{satisfiesPair, satisfies}
 use Rattle.rules.proofs.Bools.{by, and-both, and-parts, bool-ext}
 use Rattle.rules.proofs.Sets.{any-map, any-find, any-intro, below-find, below-intro}
@@ -88,7 +88,7 @@ module _ (t : Table) where
 
   pub ordering-together : (p q : ℕ) (o : List ℕ) → together s p q ≡ true → IsOrdering t p o → IsOrdering t q o
   ordering-together p q o h f i =
-      f i ∙ ap (λ (b : Bool). pick (leb 1 i && (leb i (t .pairs) && b)) 1 0) (met-same s (λ x a. requires t x a i) p q h)
+      f i ∙ ap (λ (b : Bool). pick (leb 1 i && (leb i (t .pairs) && b)) 1 0) (met-same s (countsBy t i) p q h)
 
   pub moved-ordering : (q a : ℕ) (o : List ℕ) → isInside s q a ≡ true → IsOrdering t q o
       → IsOrdering t (s .go q a) (moved asTheyStood (prohibits t q a) o)
@@ -138,7 +138,7 @@ module _ (t : Table) where
   pair-counts q a i w p h =
       let xs = passFrom s q (a ∷ w) in
       let r = and-parts (not (any (λ x. prohibits t (x .from) (x .by) i) xs)) (any (λ x. requires t (x .from) (x .by) i) xs) h in
-      met-view s (λ x b. requires t x b i) q .1 (closed-met s (λ x b. requires t x b i) p (r .1))
+      met-view s (countsBy t i) q .1 (closed-met s (countsBy t i) p (r .1))
 
   -- some pair of an ordering is satisfied exactly if the table is
   some-satisfied : (q a : ℕ) (w o : List ℕ) → Path s q (a ∷ w) q → IsOrdering t q o

@@ -86,7 +86,7 @@ taken-table bs h =
 
 -- ---- a word that is taken
 pub record TakenWord (m : ℕ) (lead l : List ℕ) : Type 0 where
-  pub some-loop : eqb (length l) 0 ≡ false
+  pub some-loop : 0 < length l
   pub lead-letters : strayLetter m lead ≡ false
   pub loop-letters : strayLetter m l ≡ false
 
@@ -95,7 +95,8 @@ taken-word m lead l h =
     let a = first-none (eqb (length l) 0 || (ltb maxPiece (length lead) || ltb maxPiece (length l))) 9 (when (strayLetter m lead || strayLetter m l) Refusal.letter) h in
     let b = or-none (eqb (length l) 0) (ltb maxPiece (length lead) || ltb maxPiece (length l)) (a .0) in
     let c = or-none (strayLetter m lead) (strayLetter m l) (when-none (strayLetter m lead || strayLetter m l) 8 (a .1)) in
-    record { some-loop = b .0; lead-letters = c .0; loop-letters = c .1 }
+    let l0 = eqb-false (length l) 0 (b .0) in
+    record { some-loop = omega arith; lead-letters = c .0; loop-letters = c .1 }
 
 -- ---- a parity table that is taken
 pub parity-none : (n m : ℕ) (ts ps : List ℕ) → 1 ≤ n → n ≤ maxRows → 1 ≤ m → m ≤ maxLetters → n * m ≤ length ts → n * m ≤ length ps

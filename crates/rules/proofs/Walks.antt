@@ -33,6 +33,11 @@ pass-length : (s : System) (w : List ℕ) (p : ℕ) → length (passFrom s p w) 
 pass-length s [] p = refl
 pass-length s (a ∷ w) p = ap suc (pass-length s w (s .go p a))
 
+-- a path that leads back leaves a state
+closed-below : (s : System) {q : ℕ} (w : List ℕ) → 0 < length w → Path s q w q → q < s .states
+closed-below s [] h p = absurd (omega arith)
+closed-below s (a ∷ w) h (step l t r) = path-below s t r
+
 pub record ClosedPath (s : System) (xs : List Taken) : Type 0 where
   pub place : ℕ
   pub letters : List ℕ
@@ -47,17 +52,9 @@ closed-path s (x ∷ xs) h =
     let p = x .from in
     let g = and-parts (goesFrom s p (x ∷ xs)) (eqb (endOf s p (x ∷ xs)) p) h in
     let r = walk-path s (x ∷ xs) p (g .0) in
-    let y = s .go p (x .by) in
-    let tail = ltb (x .by) (s .letters) && (ltb y (s .states) && goesFrom s y xs) in
-    let b = and-parts (eqb p p) (ltb p (s .states) && tail) (g .0) in
-    record {
-      place = p;
-      letters = r .0;
-      is-state = ltb-true p (s .states) (and-parts (ltb p (s .states)) tail (b .1) .0);
-      some = omega (arith, ap length (r .1), pass-length s (r .0) p);
-      taken-by = r .1;
-      path = subst (λ (z : ℕ). Path s p (r .0) z) (eqb-true (endOf s p (x ∷ xs)) p (g .1)) (r .2);
-    }
+    let some : 0 < length (r .0) = omega (arith, ap length (r .1), pass-length s (r .0) p) in
+    let path = subst (λ (z : ℕ). Path s p (r .0) z) (eqb-true (endOf s p (x ∷ xs)) p (g .1)) (r .2) in
+    record { place = p; letters = r .0; is-state = closed-below s (r .0) some path; some = some; taken-by = r .1; path = path }
 
 -- every transition of a walk that leads back is an inside transition of the component in which it runs
 module _ (s : System) (b : ℕ → ℕ → Bool) where
@@ -81,7 +78,4 @@ module _ (s : System) (b : ℕ → ℕ → Bool) where
       one l′ t′ = step l′ t′ here
 
   pub closed-met : {q a : ℕ} {w : List ℕ} → Path s q (a ∷ w) q → any (λ x. b (x .from) (x .by)) (passFrom s q (a ∷ w)) ≡ true → Met s b q
-  closed-met {q} p h = walk-met q (closed-state p) ([], here) p ([], here) h
-    where
-      closed-state : {a : ℕ} {w : List ℕ} → Path s q (a ∷ w) q → q < s .states
-      closed-state (step l t r) = path-below s t r
+  closed-met {q} {a} {w} p h = walk-met q (closed-below s (a ∷ w) (omega arith) p) ([], here) p ([], here) h

@@ -3,7 +3,7 @@
 --     largestAlong s k q m w     the largest priority on that way
 --     Lawful s k good Fits       a keeper k over the system s decides `good`, a condition on sets of transitions; Fits q m says that m is
 --                                a memory that can stand at q
---     Agree s start good n ts ps ss     n rows with these targets, priorities and source states agree with the system and the condition:
+--     Faithful s start good n ts ps ss     n rows with these targets, priorities and source states agree with the system and the condition:
 --                                on looped words of any length, before the judges, and on closed walks
 use mathlib.Core.Path.{_≡_}
 use mathlib.Core.Bool.{Bool, true, false}
@@ -38,7 +38,7 @@ pub record Lawful {M : Type 0} (s : System) (k : Keeper M) (good : List Taken �
   pub loop : (q : ℕ) (m : M) (a : ℕ) (w : List ℕ) → Path s q (a ∷ w) q → Fits q m → memoryAfter s k q m (a ∷ w) ≡ m
       → isEven (largestAlong s k q m (a ∷ w)) ≡ good (passFrom s q (a ∷ w))
 
-pub record Agree (s : System) (start : ℕ) (good : List Taken → Bool) (n : ℕ) (ts ps ss : List ℕ) : Type 0 where
+pub record Faithful (s : System) (start : ℕ) (good : List Taken → Bool) (n : ℕ) (ts ps ss : List ℕ) : Type 0 where
   pub words : (lead l : List ℕ) → 0 < length l → strayLetter (s .letters) lead ≡ false → strayLetter (s .letters) l ≡ false
       → judgedBy (paritySystem n (s .letters) ts) 0 lead l (parityGood (s .letters) ps) ≡ judgedBy s start lead l good
   pub judges : (lead l : List ℕ)

@@ -5,6 +5,7 @@
 --     Rearranges arr       arr keeps every element, as often as it stood
 --     priority m o         from the record before the move: with p the largest position of a pair with either mark, 1 if there is none,
 --                          2p + 1 if that pair is prohibited, else 2p
+--     priorityWith p m i best      what pair i at position p makes of the priority found before it
 --     priorityFrom p m o best      the same where o begins at position p of a record and best is the priority found before it
 --     movedAlong arr ms o          the record o after a walk whose transitions have the marks ms
 --     largestPriority arr ms o     the largest priority on that walk
@@ -34,9 +35,12 @@ pub record Rearranges (arr : List ℕ → List ℕ) : Type 0 where
   pub same-length : (o : List ℕ) → length (arr o) ≡ length o
   pub same-occurs : (i : ℕ) (o : List ℕ) → occurs i (arr o) ≡ occurs i o
 
+abbrev pub priorityWith : ℕ → Marks → ℕ → ℕ → ℕ
+priorityWith p m i best = pick (m .prohibited i) (suc (2 * p)) (pick (m .required i) (2 * p) best)
+
 abbrev pub priorityFrom : ℕ → Marks → List ℕ → ℕ → ℕ
 priorityFrom p m [] best = best
-priorityFrom p m (i ∷ o) best = priorityFrom (suc p) m o (pick (m .prohibited i) (suc (2 * p)) (pick (m .required i) (2 * p) best))
+priorityFrom p m (i ∷ o) best = priorityFrom (suc p) m o (priorityWith p m i best)
 
 abbrev pub priority : Marks → List ℕ → ℕ
 priority m o = priorityFrom 1 m o 1

@@ -9,7 +9,8 @@
 --     targetFault n none ts    some target is neither below n nor the missing one;  marksFault  the same for marks
 --     tableFault bs            the refusal of the bytes, 1 to 6 in document 01's order, 0 if the table is taken
 --     systemOf t               the table's transition system
---     counts t q i             pair i counts in q's component: some inside transition of it has the required bit
+--     countsBy t i p a         the transition of p by a, if it is inside, makes pair i count: it has the required bit
+--     counts t q i             pair i counts in q's component: some inside transition of it makes it count
 --     rising t q               the pairs that count in q's component, rising
 --     isCounted t q i          i is a pair, and it counts in q's component
 --     IsOrdering t q o         o holds each pair that counts in q's component once, and nothing else
@@ -83,8 +84,11 @@ tableFault bs =
 abbrev pub systemOf : Table → System
 systemOf t = record { states = t .states; letters = t .letters; go = targetOf t }
 
+abbrev pub countsBy : Table → ℕ → ℕ → ℕ → Bool
+countsBy t i p a = requires t p a i
+
 abbrev pub counts : Table → ℕ → ℕ → Bool
-counts t q i = metWithin (systemOf t) (λ p a. requires t p a i) q
+counts t q i = metWithin (systemOf t) (countsBy t i) q
 
 abbrev pub rising : Table → ℕ → List ℕ
 rising t q = keep (counts t q) (tabulate (t .pairs) 1 (λ i. i))
