@@ -25,7 +25,7 @@ agrees : (bs : List ℕ) (c : ℕ) → tableFault bs ≡ 0 → c ≤ maxRows →
 agrees bs c fault within fits a b d =
     let t = tableOf bs in
     let ok = taken-table bs fault in
-    let g = demand-3 (systemOf t) (t .start) (recordKeeper t) (satisfies t) (IsOrdering t) (rabin-lawful t) (ok .start-state) c fits within a b d (ok .some-letters) (ok .most-letters) in
+    let g = demand-3 (systemOf t) (t .start) (recordKeeper t) (satisfies t) (IsOrdering t) (rabin-lawful t) (ok .start-state) c fits within a b d (ok .sizes .some-letters) (ok .sizes .most-letters) in
     record {
       words = g .words;
       judges = λ lead l. g .judges lead l ∙ rw fault;

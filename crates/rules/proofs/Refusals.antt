@@ -1,5 +1,6 @@
 -- What follows where nothing is refused.
 --     first-none, first-zero, when-none     a chain of refusals that gives none
+--     taken-sizes      what holds of sizes that are taken
 --     taken-table      what holds of a table that is taken
 --     taken-word       what holds of a word that is taken
 --     parity-none      a parity table with nothing to refuse
@@ -34,13 +35,33 @@ pub first-zero : (x r : ℕ) → firstOf x r ≡ 0 → (x ≡ 0) × (r ≡ 0)
 first-zero zero r h = (refl, h)
 first-zero (suc x) r h = absurd (omega arith)
 
+-- ---- sizes within their ranges
+pub record TakenSizes (n m k : ℕ) : Type 0 where
+  pub some-states : 1 ≤ n
+  pub most-states : n ≤ maxStates
+  pub some-letters : 1 ≤ m
+  pub most-letters : m ≤ maxLetters
+  pub most-pairs : k ≤ maxPairs
+
+pub taken-sizes : (n m k : ℕ) → sizesFault n m k ≡ false → TakenSizes n m k
+taken-sizes n m k h =
+    let a = or-none (eqb n 0) (ltb maxStates n || (eqb m 0 || (ltb maxLetters m || ltb maxPairs k))) h in
+    let b = or-none (ltb maxStates n) (eqb m 0 || (ltb maxLetters m || ltb maxPairs k)) (a .1) in
+    let c = or-none (eqb m 0) (ltb maxLetters m || ltb maxPairs k) (b .1) in
+    let d = or-none (ltb maxLetters m) (ltb maxPairs k) (c .1) in
+    let n0 = eqb-false n 0 (a .0) in
+    let m0 = eqb-false m 0 (c .0) in
+    record {
+      some-states = omega arith;
+      most-states = ltb-false maxStates n (b .0);
+      some-letters = omega arith;
+      most-letters = ltb-false maxLetters m (d .0);
+      most-pairs = ltb-false maxPairs k (d .1);
+    }
+
 -- ---- a table that is taken
 pub record TakenTable (bs : List ℕ) : Type 0 where
-  pub some-states : 1 ≤ tableOf bs .states
-  pub most-states : tableOf bs .states ≤ maxStates
-  pub some-letters : 1 ≤ tableOf bs .letters
-  pub most-letters : tableOf bs .letters ≤ maxLetters
-  pub most-pairs : tableOf bs .pairs ≤ maxPairs
+  pub sizes : TakenSizes (tableOf bs .states) (tableOf bs .letters) (tableOf bs .pairs)
   pub exact : length bs ≡ tableLength (tableOf bs .states) (tableOf bs .letters)
   pub start-state : tableOf bs .start < tableOf bs .states
   pub targets-taken : targetFault (tableOf bs .states) noState (tableOf bs .targets) ≡ false
@@ -66,18 +87,8 @@ taken-table bs h =
     let e = first-none (leb n (t .start)) 3 targets (d .1) in
     let f = first-none (targetFault n noState (t .targets)) 4 marks (e .1) in
     let g = when-none (marksFault (t .pairs) (t .targets) (t .marks)) 5 (f .1) in
-    let s1 = or-none (eqb n 0) (ltb maxStates n || (eqb m 0 || (ltb maxLetters m || ltb maxPairs (t .pairs)))) (b .0) in
-    let s2 = or-none (ltb maxStates n) (eqb m 0 || (ltb maxLetters m || ltb maxPairs (t .pairs))) (s1 .1) in
-    let s3 = or-none (eqb m 0) (ltb maxLetters m || ltb maxPairs (t .pairs)) (s2 .1) in
-    let s4 = or-none (ltb maxLetters m) (ltb maxPairs (t .pairs)) (s3 .1) in
-    let n0 = eqb-false n 0 (s1 .0) in
-    let m0 = eqb-false m 0 (s3 .0) in
     record {
-      some-states = omega arith;
-      most-states = ltb-false maxStates n (s2 .0);
-      some-letters = omega arith;
-      most-letters = ltb-false maxLetters m (s4 .0);
-      most-pairs = ltb-false maxPairs (t .pairs) (s4 .1);
+      sizes = taken-sizes n m (t .pairs) (b .0);
       exact = le-antisymm (ltb-false l (length bs) (d .0)) (ltb-false (length bs) l (c .0));
       start-state = leb-false n (t .start) (e .0);
       targets-taken = f .0;

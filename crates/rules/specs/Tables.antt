@@ -67,7 +67,7 @@ targetFault n none ts = any (λ x. not (ltb x n || eqb x none)) ts
 -- a bit above pair k, or any bit on a missing transition
 abbrev pub marksFault : ℕ → List ℕ → List ℕ → Bool
 marksFault k [] ms = false
-marksFault k (x ∷ ts) ms = (not (ltb (getD ms 0 0) (2 ^ k) && ltb (getD ms 1 0) (2 ^ k)) || (eqb x noState && not (eqb (getD ms 0 0 + getD ms 1 0) 0))) || marksFault k ts (drop 2 ms)
+marksFault k (x ∷ ts) ms = (not (ltb (getD ms 0 0) (2 ^ k) && ltb (getD ms 1 0) (2 ^ k)) || (eqb x noState && not (eqb (getD ms 0 0) 0 && eqb (getD ms 1 0) 0))) || marksFault k ts (drop 2 ms)
 
 unfoldable pub tableFault : List ℕ → ℕ
 tableFault bs =

@@ -1,0 +1,67 @@
+-- The checks of sizes and cells.
+--     sizes-fault                  the sizes within their ranges, as tests
+--     target-turn, marks-turn      what is left to check after one cell more
+--     target-end, marks-end        no cell is left
+--     limit-of                     the first number with a bit above pair k
+use mathlib.Core.Path.{_≡_, refl, sym, _∙_}
+use mathlib.Core.Bool.{Bool, true, false, not, _&&_, _||_, or-assoc, or-false}
+use mathlib.Core.List.{List, [], _∷_}
+use Prim.Native.Nat.{ℕ, zero, suc, _+_, _*_, _^_, _%_, _<_, _≤_}
+use native.Mathlib.Nat.{add-zero, one-mul}
+use native.Mathlib.Numerals.{add-one}
+use native.Mathlib.Omega.{arith}
+use lib.Dec.{lit<, eqb, ltb, leb, leb·zero, leb·suc-suc, eqb·suc-zero}
+use lib.ListN.{length, getD, drop, drop-of-length-le}
+use lib.Pow.{shl-exact}
+use lib.Seq.{drop-cons, getD-drop, drop-drop}
+use borrow.Author.Tests.{leb-true, leb-false, le-ltb, lt-ltb}
+use Rattle.rules.specs.Limits.{maxStates, maxLetters, maxPairs, noState}
+use Rattle.rules.specs.Tables.{sizesFault, targetFault, marksFault}
+use Rattle.rules.proofs.Bools.{by}
+
+-- a size at the ends of its range
+at-most : (x y : ℕ) → leb x y ≡ not (ltb y x)
+at-most x y = by (leb x y) (λ e. rw (e, le-ltb y x (leb-true x y e))) (λ e. rw (e, lt-ltb y x (leb-false x y e)))
+
+at-least-one : (x : ℕ) → leb 1 x ≡ not (eqb x 0)
+at-least-one zero = refl
+at-least-one (suc x) = rw (leb·suc-suc 0 x, leb·zero x, eqb·suc-zero x)
+
+none-of : (a b c d e : Bool) → not (((not a && not b) && (not c && not d)) && not e) ≡ a || (b || (c || (d || e)))
+none-of true b c d e = refl
+none-of false true c d e = refl
+none-of false false true d e = refl
+none-of false false false true e = refl
+none-of false false false false true = refl
+none-of false false false false false = refl
+
+pub sizes-fault : (n m k : ℕ)
+    → not (((leb 1 n && leb n maxStates) && (leb 1 m && leb m maxLetters)) && leb k maxPairs) ≡ sizesFault n m k
+sizes-fault n m k =
+    rw (at-least-one n, at-most n maxStates, at-least-one m, at-most m maxLetters, at-most k maxPairs)
+    (none-of (eqb n 0) (ltb maxStates n) (eqb m 0) (ltb maxLetters m) (ltb maxPairs k))
+
+-- every cell: what was found so far, or is still to be found
+pub target-turn : (n : ℕ) (bad : Bool) (ts : List ℕ) (c : ℕ) → c < length ts
+    → (bad || not (ltb (getD ts c 0) n || eqb (getD ts c 0) noState)) || targetFault n noState (drop (c + 1) ts)
+    ≡ bad || targetFault n noState (drop c ts)
+target-turn n bad ts c l = rw (add-one c, drop-cons ts c 0 l) (or-assoc bad _ _)
+
+pub target-end : (n : ℕ) (bad : Bool) (ts : List ℕ) (c : ℕ) → length ts ≤ c
+    → bad || targetFault n noState (drop c ts) ≡ targetFault n noState ts → bad ≡ targetFault n noState ts
+target-end n bad ts c l h = sym (or-false bad) ∙ (rw (drop-of-length-le ts l) at h)
+
+pub limit-of : (k : ℕ) → k ≤ maxPairs → 1 * 2 ^ k % 256 ≡ 2 ^ k
+limit-of k l = shl-exact 1 k 8 (lit< tt) (omega arith) ∙ one-mul (2 ^ k)
+
+pub marks-turn : (k : ℕ) (bad : Bool) (ts ms : List ℕ) (c : ℕ) → c < length ts
+    → (bad || (not (ltb (getD ms (2 * c) 0) (2 ^ k) && ltb (getD ms (2 * c + 1) 0) (2 ^ k)) || (eqb (getD ts c 0) noState && not (eqb (getD ms (2 * c) 0) 0 && eqb (getD ms (2 * c + 1) 0) 0)))) || marksFault k (drop (c + 1) ts) (drop (2 * (c + 1)) ms)
+    ≡ bad || marksFault k (drop c ts) (drop (2 * c) ms)
+marks-turn k bad ts ms c l =
+    let e : 2 * (c + 1) ≡ 2 * c + 2 = omega arith in
+    rw (e, add-one c, drop-cons ts c 0 l, getD-drop (2 * c) ms 0 0, getD-drop (2 * c) ms 1 0, drop-drop 2 (2 * c) ms, add-zero (2 * c))
+    (or-assoc bad _ _)
+
+pub marks-end : (k : ℕ) (bad : Bool) (ts ms : List ℕ) (c : ℕ) → length ts ≤ c
+    → bad || marksFault k (drop c ts) (drop (2 * c) ms) ≡ marksFault k ts ms → bad ≡ marksFault k ts ms
+marks-end k bad ts ms c l h = sym (or-false bad) ∙ (rw (drop-of-length-le ts l) at h)

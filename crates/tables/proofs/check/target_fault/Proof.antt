@@ -1,0 +1,51 @@
+-- `tables::check::target_fault` meets its contract. The invariant: what was found so far, or is still to be found from cell c on, is what is to be found.
+use mathlib.Core.Path.{_≡_, refl, _∙_}
+use mathlib.Core.Bool.{_||_}
+use Prim.Native.Nat.{_-_, _≤_, _<_}
+use native.Mathlib.Omega.{arith}
+use borrow.Author.Needs.{needs}
+use lib.ListN.{length, drop}
+use Rattle.rules.specs.Limits.{noState}
+use Rattle.rules.specs.Tables.{targetFault}
+use Rattle.tables.proofs.Checks.{target-turn, target-end}
+use Rattle.tables.proofs.check.target_fault.Statement.{statement}
+use Rattle.tables.proofs.check.target_fault.Tie as tie
+use Rattle.tables.proofs.check.target_fault.Reads as reads
+use Rattle.tables.proofs.check.target_fault.Lts as lts
+
+abbrev Inv-loop : tie.InvT-loop
+Inv-loop targets n bad₀ c₀ bad c = (c ≤ length targets) × (bad || targetFault n noState (drop c targets) ≡ targetFault n noState targets)
+
+abbrev μ-loop : tie.MeasureT-loop
+μ-loop targets n bad₀ c₀ bad c = length targets - c
+
+loop-holds : tie.Need-loop-holds Inv-loop μ-loop
+loop-holds c = (search needs, refl)
+
+shared-slice-read-target : tie.Need-shared-slice-read-target Inv-loop μ-loop
+shared-slice-read-target c = omega arith
+
+add-c : tie.Need-add-c Inv-loop μ-loop
+add-c c = omega arith
+
+loop-less : tie.Need-loop-less Inv-loop μ-loop
+loop-less c = omega arith
+
+loop-again : tie.Need-loop-again Inv-loop μ-loop
+loop-again c = let i = c .before .before .loop in let l : i .c < length (c .before .before .before .args .targets .now) = omega arith in (omega arith, target-turn (c .before .before .before .args .n) (i .bad) (c .before .before .before .args .targets .now) (i .c) l ∙ i .inv .1)
+
+returns : tie.Need-returns Inv-loop μ-loop
+returns c = target-end _ _ _ _ (c .loop-test .left) (c .before .loop .inv .1)
+
+pub target-fault-spec : {M : Type 1} → statement M
+target-fault-spec =
+    tie.close
+    (tie.spec
+    Inv-loop
+    μ-loop
+    loop-holds
+    shared-slice-read-target
+    add-c
+    loop-less
+    loop-again
+    returns)

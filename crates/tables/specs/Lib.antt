@@ -1,0 +1,1 @@
+-- What the calls of this crate promise beyond the rules.
