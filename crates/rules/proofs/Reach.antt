@@ -5,20 +5,21 @@
 --     together-view                     two states share a component exactly if a path leads from each to the other
 --     together-refl, together-sym, together-trans     sharing a component is an equivalence
 --     component-together, component-least, component-same     componentOf is the smallest state of the component, and the same for all of it
+--     together-chains, component-is     how the smallest state is found: the first one with a chain there and back
 --     inside-of-return                  a transition with a way back is inside
 --     met-view, met-same                what some inside transition of a component meets, and that it is the same for the whole component
-use mathlib.Core.Path.{_≡_, refl}
+use mathlib.Core.Path.{_≡_, refl, sym}
 use mathlib.Core.Logic.{_↔_}
-use mathlib.Core.Bool.{Bool, true, _&&_}
+use mathlib.Core.Bool.{Bool, true, false, _&&_}
 use mathlib.Core.List.{List, [], _∷_, _++_}
 use Prim.Native.Nat.{ℕ, zero, suc, _≤_, _<_}
 use native.Mathlib.Nat.{not-suc-le-zero, le-antisymm}
 use native.Mathlib.Omega.{arith}
 use lib.Dec.{eqb, ltb}
-use borrow.Author.Tests.{eqb-true, eqb-false, eq-eqb, ltb-true, lt-ltb}
+use borrow.Author.Tests.{eqb-true, eqb-false, eq-eqb, ne-eqb, ltb-true, ltb-false, lt-ltb}
 use Rattle.rules.specs.Basics.{anyBelow}
 use Rattle.rules.specs.Systems.{System, linked, via, reaches, together, componentOf, isInside, metWithin, Path, here, step}
-use Rattle.rules.proofs.Bools.{by, or-cases, or-left, or-right, and-both, and-parts, bool-ext}
+use Rattle.rules.proofs.Bools.{by, clash, or-cases, or-left, or-right, and-both, and-parts, bool-ext}
 use Rattle.rules.proofs.Sets.{below-find, below-intro, least-passes, least-least}
 
 -- Warshall's closure of any relation
@@ -127,6 +128,18 @@ module _ (s : System) where
   pub component-least : (q p : ℕ) → together s q p ≡ true → componentOf s q ≤ p
   unfolding componentOf
   component-least q p h = least-least (s .states) 0 (together s q) p (omega arith) h
+
+  -- the first state of a component, looked for state by state
+  pub together-chains : (p q : ℕ) → (p ≡ q → ⊥) → together s p q ≡ via (linked s) (s .states) p q && via (linked s) (s .states) q p
+  unfolding together reaches
+  together-chains p q d = rw (ne-eqb p q d, ne-eqb q p (λ e. d (sym e)))
+
+  pub component-is : (q r : ℕ) → q < s .states → together s q r ≡ true → ((i : ℕ) → i < r → together s q i ≡ false) → r ≡ componentOf s q
+  component-is q r l t none =
+      by
+      (ltb (componentOf s q) r)
+      (λ e. clash (component-together q l) (none (componentOf s q) (ltb-true (componentOf s q) r e)))
+      (λ e. le-antisymm (ltb-false (componentOf s q) r e) (component-least q r t))
 
   pub component-same : (p q : ℕ) → p < s .states → q < s .states → (together s p q ≡ true) ↔ (componentOf s p ≡ componentOf s q)
   component-same p q lp lq =

@@ -1,1 +1,2 @@
 -- What the calls of this crate promise beyond the rules.
+pub mod Words

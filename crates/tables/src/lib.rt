@@ -6,6 +6,8 @@ use rules::limit::MAX_STATES;
 use rules::refusal;
 
 mod check;
+mod reach;
+mod words;
 
 ghost use Rattle.rules.specs.Says.{CheckSays};
 

@@ -1,0 +1,87 @@
+-- `tables::reach::close_stage` meets its contract. The invariant: the rows below p are joined, the others as they were.
+use mathlib.Core.Path.{_≡_, sym, ap, _∙_}
+use mathlib.Core.Bool.{_&&_, _||_}
+use Prim.Native.Nat.{ℕ, _-_, _≤_}
+use native.Mathlib.Nat.{le-antisymm}
+use native.Mathlib.Omega.{arith}
+use borrow.Author.Needs.{needs}
+use lib.ListN.{length, getD}
+use Rattle.rules.specs.Basics.{bit}
+use Rattle.tables.proofs.Filling.{Filled, filled-none, filled-more}
+use Rattle.tables.proofs.Closure.{Joined, stage-done}
+use Rattle.tables.proofs.reach.close_stage.Statement.{statement}
+use Rattle.tables.proofs.reach.close_stage.Tie as tie
+use Rattle.tables.proofs.reach.close_stage.Reads as reads
+use Rattle.tables.proofs.reach.close_stage.Lts as lts
+use Rattle.tables.proofs.words.with_all.Reads as with-all-reads
+
+abbrev Inv-loop : tie.InvT-loop
+Inv-loop rows₀ n k through p₀ rows p = (p ≤ n) × Filled (λ i v. Joined k through (getD rows₀ i 0) v) rows₀ rows p
+
+abbrev μ-loop : tie.MeasureT-loop
+μ-loop rows₀ n k through p₀ rows p = n - p
+
+mul-through : tie.Need-mul-through Inv-loop μ-loop
+mul-through c = omega arith
+
+slice-read-through : tie.Need-slice-read-through Inv-loop μ-loop
+slice-read-through c = omega arith
+
+loop-holds : tie.Need-loop-holds Inv-loop μ-loop
+loop-holds c = (search needs, filled-none _ _)
+
+mul-with-all : tie.Need-mul-with-all Inv-loop μ-loop
+mul-with-all c = omega arith
+
+slice-read-with-all : tie.Need-slice-read-with-all Inv-loop μ-loop
+slice-read-with-all c = omega arith
+
+with-all-requires : tie.Need-with-all-requires Inv-loop μ-loop
+with-all-requires c κs = omega arith
+
+mul-rows : tie.Need-mul-rows Inv-loop μ-loop
+mul-rows c = omega arith
+
+slice-write-rows : tie.Need-slice-write-rows Inv-loop μ-loop
+slice-write-rows c = omega arith
+
+add-p : tie.Need-add-p Inv-loop μ-loop
+add-p c = omega arith
+
+loop-less : tie.Need-loop-less Inv-loop μ-loop
+loop-less c = omega arith
+
+loop-again : tie.Need-loop-again Inv-loop μ-loop
+loop-again c = let s = c .before .before .before .before .before .before in
+    let i = c .before .before .before .loop in
+    let joined : Joined (s .args .k) (getD (s .args .rows .now) (s .args .k) 0) (getD (s .args .rows .now) (i .p) 0) (c .with-all .result) =
+    λ q. c .with-all .ensures q ∙ ap (λ (x : ℕ). bit q x || (bit (s .args .k) x && bit q (getD (s .args .rows .now) (s .args .k) 0))) (i .inv .1 .rest (i .p) (omega arith)) in
+    (omega arith, filled-more _ _ _ (i .p) (c .with-all .result) (omega arith) joined (i .inv .1))
+
+same-length : tie.Need-same-length Inv-loop μ-loop
+same-length c = c .before .loop .inv .1 .size
+
+returns : tie.Need-returns Inv-loop μ-loop
+returns c = λ e h. let s = c .before .before .before .before in
+    let i = c .before .loop in
+    stage-done e (s .args .n) (s .args .k) (s .args .rows .now) (i .rows) (s .pre .2) (rw (le-antisymm (i .inv .0) (c .loop-test .left)) at (i .inv .1)) h
+
+pub close-stage-spec : {M : Type 1} → statement M
+close-stage-spec =
+    tie.close
+    (tie.spec
+    Inv-loop
+    μ-loop
+    mul-through
+    slice-read-through
+    loop-holds
+    mul-with-all
+    slice-read-with-all
+    with-all-requires
+    mul-rows
+    slice-write-rows
+    add-p
+    loop-less
+    loop-again
+    same-length
+    returns)

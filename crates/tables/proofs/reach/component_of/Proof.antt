@@ -1,0 +1,89 @@
+-- `tables::reach::component_of` meets its contract. The invariant: no state below p shares the component of q.
+use mathlib.Core.Path.{_≡_, sym, ap₂, _∙_}
+use mathlib.Core.Bool.{Bool, true, false, _&&_}
+use Prim.Native.Nat.{ℕ, _-_, _≤_, _<_}
+use native.Mathlib.Nat.{le-antisymm}
+use native.Mathlib.Omega.{arith}
+use borrow.Author.Needs.{needs}
+use borrow.Author.Count.{below-none, below-more}
+use lib.ListN.{length, getD}
+use Rattle.tables.proofs.Closure.{bothWays, first-met, first-self}
+use Rattle.tables.proofs.reach.component_of.Statement.{statement}
+use Rattle.tables.proofs.reach.component_of.Tie as tie
+use Rattle.tables.proofs.reach.component_of.Reads as reads
+use Rattle.tables.proofs.reach.component_of.Lts as lts
+use Rattle.tables.proofs.words.has.Reads as has-reads
+
+abbrev Inv-loop : tie.InvT-loop
+Inv-loop rows q p₀ p = (p ≤ q) × ((i : ℕ) → i < p → bothWays rows q i ≡ false)
+
+abbrev μ-loop : tie.MeasureT-loop
+μ-loop rows q p₀ p = q - p
+
+tested : (c : tie.After-has2 Inv-loop μ-loop)
+    → bothWays (c .before .before .before .before .before .before .before .args .rows .now) (c .before .before .before .before .before .before .before .args .q) (c .before .before .before .before .before .loop .p)
+    ≡ c .before .before .has .result && c .has2 .result
+tested c = ap₂ (λ (x y : Bool). x && y) (sym (c .before .before .has .ensures)) (sym (c .has2 .ensures))
+
+loop-holds : tie.Need-loop-holds Inv-loop μ-loop
+loop-holds c = (search needs, below-none _)
+
+mul-has : tie.Need-mul-has Inv-loop μ-loop
+mul-has c = omega arith
+
+shared-slice-read-has : tie.Need-shared-slice-read-has Inv-loop μ-loop
+shared-slice-read-has c = omega arith
+
+has-requires : tie.Need-has-requires Inv-loop μ-loop
+has-requires c κs = omega arith
+
+mul-has-2 : tie.Need-mul-has-2 Inv-loop μ-loop
+mul-has-2 c = omega arith
+
+shared-slice-read-has-2 : tie.Need-shared-slice-read-has-2 Inv-loop μ-loop
+shared-slice-read-has-2 c = omega arith
+
+has-requires-2 : tie.Need-has-requires-2 Inv-loop μ-loop
+has-requires-2 c κs = omega arith
+
+cast-result : tie.Need-cast-result Inv-loop μ-loop
+cast-result c = omega arith
+
+returns : tie.Need-returns Inv-loop μ-loop
+returns c = λ s l h. first-met s (c .before .before .before .before .before .before .before .before .args .rows .now) h _ l _ (c .before .before .before .before .before .loop-test .taken) (tested (c .before) ∙ c .if1 .taken) (c .before .before .before .before .before .before .loop .inv .1)
+
+add-p : tie.Need-add-p Inv-loop μ-loop
+add-p c = omega arith
+
+loop-less : tie.Need-loop-less Inv-loop μ-loop
+loop-less c = omega arith
+
+loop-again : tie.Need-loop-again Inv-loop μ-loop
+loop-again c = (omega arith, below-more _ _ (c .before .before .before .before .before .before .loop .inv .1) (tested (c .before) ∙ c .if1 .left))
+
+cast-result-2 : tie.Need-cast-result-2 Inv-loop μ-loop
+cast-result-2 c = omega arith
+
+returns-2 : tie.Need-returns-2 Inv-loop μ-loop
+returns-2 c = λ s l h. first-self s (c .before .before .before .args .rows .now) h _ l (rw (le-antisymm (c .before .loop .inv .0) (c .loop-test .left)) at (c .before .loop .inv .1))
+
+pub component-of-spec : {M : Type 1} → statement M
+component-of-spec =
+    tie.close
+    (tie.spec
+    Inv-loop
+    μ-loop
+    loop-holds
+    mul-has
+    shared-slice-read-has
+    has-requires
+    mul-has-2
+    shared-slice-read-has-2
+    has-requires-2
+    cast-result
+    returns
+    add-p
+    loop-less
+    loop-again
+    cast-result-2
+    returns-2)

@@ -1,0 +1,65 @@
+-- `tables::reach::fill_components` meets its contract: the rows hold the links, then all chains, and the components are read off them.
+use mathlib.Core.Path.{refl}
+use native.Mathlib.Omega.{arith}
+use borrow.Author.Needs.{needs}
+use Rattle.rules.specs.Systems.{linked}
+use Rattle.rules.specs.Tables.{tableOf, systemOf}
+use Rattle.tables.proofs.Cells.{Sized, sized}
+use Rattle.tables.proofs.reach.fill_components.Statement.{statement}
+use Rattle.tables.proofs.reach.fill_components.Tie as tie
+use Rattle.tables.proofs.reach.fill_components.Reads as reads
+use Rattle.tables.proofs.reach.fill_components.Lts as lts
+use Rattle.tables.proofs.reach.close_rows.Reads as close-rows-reads
+use Rattle.tables.proofs.reach.link_rows.Reads as link-rows-reads
+use Rattle.tables.proofs.reach.write_components.Reads as write-components-reads
+
+known : (c : tie.Start) → Sized (c .args .table .now)
+known c = sized _ (c .pre .0)
+
+shared-slice-read-n : tie.Need-shared-slice-read-n
+shared-slice-read-n c = omega (arith, known (c .before .before .before))
+
+cast-n : tie.Need-cast-n
+cast-n c = search needs
+
+slice-aggregate-link-rows : tie.Need-slice-aggregate-link-rows
+slice-aggregate-link-rows c = search needs
+
+link-rows-requires : tie.Need-link-rows-requires
+link-rows-requires c κs = (c .before .before .before .before .pre .0, known (c .before .before .before .before) .states)
+
+slice-aggregate-close-rows : tie.Need-slice-aggregate-close-rows
+slice-aggregate-close-rows c = search needs
+
+close-rows-requires : tie.Need-close-rows-requires
+close-rows-requires c κs = omega (arith, known (c .before .before .before .before .before .before .before), c .before .before .link-rows .kept .1 .0)
+
+slice-aggregate-write-components : tie.Need-slice-aggregate-write-components
+slice-aggregate-write-components c = search needs
+
+write-components-requires : tie.Need-write-components-requires
+write-components-requires c κs = let s = c .before .before .before .before .before .before .before .before .before .before .before in
+    omega (arith, known s, c .before .before .before .close-rows .kept .0, c .before .before .before .before .before .before .link-rows .kept .1 .0, s .pre .1)
+
+same-length : tie.Need-same-length
+same-length c = search needs
+
+returns : tie.Need-returns
+returns c = let s = c .before .before .before .before .before .before .before .before .before .before .before .before .before .before in
+    let t = systemOf (tableOf (s .args .table .now)) in
+    c .before .before .write-components .ensures t refl (c .before .before .before .before .before .before .close-rows .ensures (linked t) (c .before .before .before .before .before .before .before .before .before .link-rows .ensures))
+
+pub fill-components-spec : {M : Type 1} → statement M
+fill-components-spec =
+    tie.close
+    (tie.spec
+    shared-slice-read-n
+    cast-n
+    slice-aggregate-link-rows
+    link-rows-requires
+    slice-aggregate-close-rows
+    close-rows-requires
+    slice-aggregate-write-components
+    write-components-requires
+    same-length
+    returns)

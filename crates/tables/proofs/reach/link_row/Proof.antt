@@ -1,0 +1,89 @@
+-- `tables::reach::link_row` meets its contract. The invariant: the set holds what the letters below a lead to.
+use mathlib.Core.Path.{_∙_}
+use Prim.Native.Nat.{_-_, _<_, _≤_, _*_}
+use native.Mathlib.Nat.{le-antisymm}
+use native.Mathlib.Omega.{arith}
+use borrow.Author.Needs.{needs}
+use Rattle.rules.specs.Tables.{tableOf, systemOf}
+use Rattle.tables.proofs.Bits.{bit-none}
+use Rattle.tables.proofs.Cells.{Sized, sized, row-within, cell-byte, target-byte}
+use Rattle.tables.proofs.Closure.{LinksBelow, links-more, links-all}
+use Rattle.tables.proofs.reach.link_row.Statement.{statement}
+use Rattle.tables.proofs.reach.link_row.Tie as tie
+use Rattle.tables.proofs.reach.link_row.Reads as reads
+use Rattle.tables.proofs.reach.link_row.Lts as lts
+use Rattle.tables.proofs.reach.with_target.Reads as with-target-reads
+
+abbrev Inv-loop : tie.InvT-loop
+Inv-loop table q n m first set₀ a₀ set a = (a ≤ tableOf table .letters) × LinksBelow (systemOf (tableOf table)) q a set
+
+abbrev μ-loop : tie.MeasureT-loop
+μ-loop table q n m first set₀ a₀ set a = m - a
+
+known : (c : tie.Start Inv-loop μ-loop) → Sized (c .args .table .now)
+known c = sized _ (c .pre .0)
+
+row-fits : (c : tie.Start Inv-loop μ-loop) → c .args .q * tableOf (c .args .table .now) .letters ≤ tableOf (c .args .table .now) .states * tableOf (c .args .table .now) .letters
+row-fits c = row-within _ _ (c .args .q) (c .pre .1)
+
+shared-slice-read-n : tie.Need-shared-slice-read-n Inv-loop μ-loop
+shared-slice-read-n c = omega (arith, known (c .before .before))
+
+shared-slice-read-m : tie.Need-shared-slice-read-m Inv-loop μ-loop
+shared-slice-read-m c = omega (arith, known (c .before .before .before))
+
+cast-m : tie.Need-cast-m Inv-loop μ-loop
+cast-m c = omega (arith, known (c .before .before .before))
+
+mul-first : tie.Need-mul-first Inv-loop μ-loop
+mul-first c = omega (arith, row-fits (c .before .before .before), known (c .before .before .before))
+
+add-first : tie.Need-add-first Inv-loop μ-loop
+add-first c = omega (arith, row-fits (c .before .before .before), known (c .before .before .before))
+
+loop-holds : tie.Need-loop-holds Inv-loop μ-loop
+loop-holds c = (search needs, λ p l. bit-none p)
+
+add-with-target : tie.Need-add-with-target Inv-loop μ-loop
+add-with-target c = omega (arith, row-fits (c .before .before .before .before .before), known (c .before .before .before .before .before))
+
+shared-slice-read-with-target : tie.Need-shared-slice-read-with-target Inv-loop μ-loop
+shared-slice-read-with-target c = let s = c .before .before .before .before .before .before in cell-byte _ (s .pre .0) (s .args .q) _ (s .pre .1) (c .before .loop-test .taken)
+
+with-target-requires : tie.Need-with-target-requires Inv-loop μ-loop
+with-target-requires c κs = known (c .before .before .before .before .before .before) .states
+
+add-a : tie.Need-add-a Inv-loop μ-loop
+add-a c = omega (arith, known (c .before .before .before .before .before .before .before))
+
+loop-less : tie.Need-loop-less Inv-loop μ-loop
+loop-less c = omega arith
+
+loop-again : tie.Need-loop-again Inv-loop μ-loop
+loop-again c = let s = c .before .before .before .before .before .before .before in
+    let l = c .before .before .loop-test .taken in
+    (omega arith, links-more (systemOf (tableOf (s .args .table .now))) (s .args .q) (c .before .before .before .loop .a) (c .before .before .before .loop .set) (c .with-target .result) (c .before .before .before .loop .inv .1) (λ p b. rw (target-byte _ (s .pre .0) (s .args .q) (c .before .before .before .loop .a) (s .pre .1) l) (c .with-target .ensures p b)))
+
+returns : tie.Need-returns Inv-loop μ-loop
+returns c = let i = c .before .loop in
+    links-all (systemOf (tableOf (c .before .before .before .before .before .args .table .now))) (c .before .before .before .before .before .args .q) (i .a) (i .set) (le-antisymm (i .inv .0) (c .loop-test .left)) (i .inv .1)
+
+pub link-row-spec : {M : Type 1} → statement M
+link-row-spec =
+    tie.close
+    (tie.spec
+    Inv-loop
+    μ-loop
+    shared-slice-read-n
+    shared-slice-read-m
+    cast-m
+    mul-first
+    add-first
+    loop-holds
+    add-with-target
+    shared-slice-read-with-target
+    with-target-requires
+    add-a
+    loop-less
+    loop-again
+    returns)

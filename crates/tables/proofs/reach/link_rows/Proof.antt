@@ -1,0 +1,78 @@
+-- `tables::reach::link_rows` meets its contract. The invariant: the rows below q hold what their letters lead to.
+use mathlib.Core.Path.{sym}
+use Prim.Native.Nat.{_-_, _<_, _≤_}
+use native.Mathlib.Nat.{le-antisymm}
+use native.Mathlib.Omega.{arith}
+use borrow.Author.Needs.{needs}
+use lib.ListN.{length}
+use Rattle.rules.specs.Systems.{linked}
+use Rattle.rules.specs.Tables.{tableOf, systemOf}
+use Rattle.tables.specs.Words.{HoldsOf}
+use Rattle.tables.proofs.Cells.{Sized, sized}
+use Rattle.tables.proofs.Filling.{Filled, filled-none, filled-more}
+use Rattle.tables.proofs.reach.link_rows.Statement.{statement}
+use Rattle.tables.proofs.reach.link_rows.Tie as tie
+use Rattle.tables.proofs.reach.link_rows.Reads as reads
+use Rattle.tables.proofs.reach.link_rows.Lts as lts
+use Rattle.tables.proofs.reach.link_row.Reads as link-row-reads
+
+abbrev Inv-loop : tie.InvT-loop
+Inv-loop table rows₀ n q₀ rows q = (q ≤ n) × Filled (λ i v. HoldsOf (tableOf table .states) (linked (systemOf (tableOf table)) i) v) rows₀ rows q
+
+abbrev μ-loop : tie.MeasureT-loop
+μ-loop table rows₀ n q₀ rows q = n - q
+
+known : (c : tie.Start Inv-loop μ-loop) → Sized (c .args .table .now)
+known c = sized _ (c .pre .0)
+
+shared-slice-read-n : tie.Need-shared-slice-read-n Inv-loop μ-loop
+shared-slice-read-n c = omega (arith, known (c .before .before .before))
+
+cast-n : tie.Need-cast-n Inv-loop μ-loop
+cast-n c = omega (arith, known (c .before .before .before))
+
+loop-holds : tie.Need-loop-holds Inv-loop μ-loop
+loop-holds c = (search needs, filled-none _ _)
+
+link-row-requires : tie.Need-link-row-requires Inv-loop μ-loop
+link-row-requires c κs = (c .before .before .before .before .before .pre .0, c .loop-test .taken)
+
+mul-rows : tie.Need-mul-rows Inv-loop μ-loop
+mul-rows c = omega (arith, known (c .before .before .before .before .before .before))
+
+slice-write-rows : tie.Need-slice-write-rows Inv-loop μ-loop
+slice-write-rows c = omega (arith, c .before .before .loop .inv .1 .size, c .before .before .before .before .before .before .pre .1)
+
+add-q : tie.Need-add-q Inv-loop μ-loop
+add-q c = omega (arith, known (c .before .before .before .before .before .before))
+
+loop-less : tie.Need-loop-less Inv-loop μ-loop
+loop-less c = omega arith
+
+loop-again : tie.Need-loop-again Inv-loop μ-loop
+loop-again c = let s = c .before .before .before .before .before .before in
+    (omega arith, filled-more _ _ _ (c .before .before .loop .q) (c .link-row .result) (omega (arith, s .pre .1)) (c .link-row .ensures) (c .before .before .loop .inv .1))
+
+same-length : tie.Need-same-length Inv-loop μ-loop
+same-length c = c .before .loop .inv .1 .size
+
+returns : tie.Need-returns Inv-loop μ-loop
+returns c = λ p l. c .before .loop .inv .1 .done p (omega arith)
+
+pub link-rows-spec : {M : Type 1} → statement M
+link-rows-spec =
+    tie.close
+    (tie.spec
+    Inv-loop
+    μ-loop
+    shared-slice-read-n
+    cast-n
+    loop-holds
+    link-row-requires
+    mul-rows
+    slice-write-rows
+    add-q
+    loop-less
+    loop-again
+    same-length
+    returns)

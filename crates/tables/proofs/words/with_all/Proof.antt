@@ -1,0 +1,22 @@
+-- `tables::words::with_all` meets its contract.
+use mathlib.Core.Path.{sym, _∙_}
+use mathlib.Core.Bool.{or-false}
+use borrow.Author.Needs.{needs}
+use Rattle.tables.proofs.Bits.{bit-or}
+use Rattle.tables.proofs.words.with_all.Statement.{statement}
+use Rattle.tables.proofs.words.with_all.Tie as tie
+use Rattle.tables.proofs.words.with_all.Reads as reads
+use Rattle.tables.proofs.words.with_all.Lts as lts
+use Rattle.tables.proofs.words.has.Reads as has-reads
+
+has-requires : tie.Need-has-requires
+has-requires c κs = search needs
+
+returns : tie.Need-returns
+returns c = λ j. rw (sym (c .before .has .ensures) ∙ c .if1 .taken) (bit-or j _ _)
+
+returns-2 : tie.Need-returns-2
+returns-2 c = λ j. rw (sym (c .before .has .ensures) ∙ c .if1 .left) (sym (or-false _))
+
+pub with-all-spec : {M : Type 1} → statement M
+with-all-spec = tie.close (tie.spec has-requires returns returns-2)
