@@ -1,5 +1,5 @@
 -- What stands where in an array that joins one list for each row, with whatever stands behind it.
---     tabulate-length, tabulate-at     a tabulated list
+--     tabulate-length, tabulate-at, tabulate-same     a tabulated list
 --     joined-length, joined-at         lists of one length, joined: the cell of row i and letter a is number i · m + a
 --     tabulate-none, joined-none       where nothing passes a test, in each place or in each list
 --     mapped-at                        one number for each row
@@ -24,6 +24,11 @@ module _ {B : Type 0} (h : ℕ → B) where
   tabulate-at zero i a d l = absurd (omega arith)
   tabulate-at (suc n) i zero d l = ap h (omega arith)
   tabulate-at (suc n) i (suc a) d l = tabulate-at n (suc i) a d (omega arith) ∙ ap h (omega arith)
+
+pub tabulate-same : {B : Type 0} (g h : ℕ → B) (n i : ℕ) → ((a : ℕ) → i ≤ a → a < i + n → g a ≡ h a) → tabulate n i g ≡ tabulate n i h
+tabulate-same g h zero i f = refl
+tabulate-same g h (suc n) i f =
+    rw (f i (omega arith) (omega arith), tabulate-same g h n (suc i) (λ a l u. f a (omega arith) (omega arith)))
 
 module _ {A B : Type 0} (h : A → List B) (m : ℕ) (even : (x : A) → length (h x) ≡ m) where
   pub joined-length : (xs : List A) → length (joined h xs) ≡ length xs * m

@@ -7,6 +7,7 @@
 --     component-together, component-least, component-same     componentOf is the smallest state of the component, and the same for all of it
 --     together-chains, component-is     how the smallest state is found: the first one with a chain there and back
 --     inside-of-return                  a transition with a way back is inside
+--     together-component, inside-component, met-component     the same by the numbers of components alone
 --     met-view, met-same                what some inside transition of a component meets, and that it is the same for the whole component
 use mathlib.Core.Path.{_≡_, refl, sym}
 use mathlib.Core.Logic.{_↔_}
@@ -20,7 +21,7 @@ use borrow.Author.Tests.{eqb-true, eqb-false, eq-eqb, ne-eqb, ltb-true, ltb-fals
 use Rattle.rules.specs.Basics.{anyBelow}
 use Rattle.rules.specs.Systems.{System, linked, via, reaches, together, componentOf, isInside, metWithin, Path, here, step}
 use Rattle.rules.proofs.Bools.{by, clash, or-cases, or-left, or-right, and-both, and-parts, bool-ext}
-use Rattle.rules.proofs.Sets.{below-find, below-intro, least-passes, least-least}
+use Rattle.rules.proofs.Sets.{below-find, below-intro, below-same, least-passes, least-least}
 
 -- Warshall's closure of any relation
 module _ (e : ℕ → ℕ → Bool) where
@@ -147,6 +148,26 @@ module _ (s : System) where
     where
       below : (x y : ℕ) → y < s .states → together s x y ≡ true → componentOf s x ≤ componentOf s y
       below x y l h = component-least x (componentOf s y) (together-trans x y (componentOf s y) h (component-together y l))
+
+  -- the number of a component decides what is inside and what is met
+  pub together-component : (p q : ℕ) → p < s .states → q < s .states → together s p q ≡ eqb (componentOf s q) (componentOf s p)
+  together-component p q lp lq =
+      bool-ext (together s p q) (eqb (componentOf s q) (componentOf s p)) (λ h. eq-eqb _ _ (sym (component-same p q lp lq .0 h)))
+      (λ e. component-same p q lp lq .1 (sym (eqb-true (componentOf s q) (componentOf s p) e)))
+
+  pub inside-component : (q a : ℕ) → q < s .states
+      → isInside s q a ≡ ltb (s .go q a) (s .states) && eqb (componentOf s (s .go q a)) (componentOf s q)
+  unfolding isInside
+  inside-component q a l =
+      by
+      (ltb (s .go q a) (s .states))
+      (λ e. rw (e, together-component q (s .go q a) l (ltb-true (s .go q a) (s .states) e)))
+      (λ e. rw e)
+
+  pub met-component : (b : ℕ → ℕ → Bool) (q : ℕ) → q < s .states
+      → metWithin s b q ≡ anyBelow (s .states) (λ p. eqb (componentOf s p) (componentOf s q) && anyBelow (s .letters) (λ a. isInside s p a && b p a))
+  unfolding metWithin
+  met-component b q l = below-same (s .states) _ _ (λ p lp. rw (together-component q p l lp))
 
   -- inside transitions
   pub inside-of-return : {p a : ℕ} {w : List ℕ} → a < s .letters → s .go p a < s .states → Path s (s .go p a) w p → isInside s p a ≡ true

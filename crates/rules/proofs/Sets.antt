@@ -1,7 +1,7 @@
 -- Lists as sets of what passes a test, numbers below a bound, the largest of a set.
 --     any-append, any-map          tests over a joined and a mapped list
 --     any-find, any-intro, any-none     a test over a list of numbers, by its elements
---     below-find, below-intro      a test over the numbers below a bound
+--     below-find, below-intro, below-same     a test over the numbers below a bound
 --     apart                        a test that tells two numbers apart
 --     least-passes, least-least    the first number that passes a test
 --     largest-over, largest-under, largest-same     the largest of a set, from both sides; it depends on the set alone
@@ -53,6 +53,10 @@ below-intro (suc n) b i l h =
     (eqb i n)
     (λ e. or-left (b n) (anyBelow n b) (rw (eqb-true i n e) at h))
     (λ e. or-right (b n) (anyBelow n b) (below-intro n b i (omega (arith, eqb-false i n e)) h))
+
+pub below-same : (n : ℕ) (b c : ℕ → Bool) → ((i : ℕ) → i < n → b i ≡ c i) → anyBelow n b ≡ anyBelow n c
+below-same zero b c h = refl
+below-same (suc n) b c h = rw (h n (omega arith), below-same n b c (λ i l. h i (omega arith)))
 
 -- the first number from i on that passes, where one does within f
 least-hit : (f i : ℕ) (b : ℕ → Bool) → b i ≡ true → least (suc f) i b ≡ i

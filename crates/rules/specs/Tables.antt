@@ -6,7 +6,8 @@
 --     prohibits t q a i        the transition of q by a has pair i's prohibited bit: it is in the pair's Fin set
 --     requires t q a i         the transition of q by a has pair i's required bit: it is in the pair's Inf set
 --     sizesFault n m k         a size is out of range;  tableLength n m  the bytes that the sizes demand
---     targetFault n none ts    some target is neither below n nor the missing one;  marksFault  the same for marks
+--     targetFault n none ts    some target is neither below n nor the missing one
+--     markFault, marksFault    the marks of one transition, or some marks, are not right for k pairs and their targets
 --     tableFault bs            the refusal of the bytes, 1 to 6 in document 01's order, 0 if the table is taken
 --     systemOf t               the table's transition system
 --     countsBy t i p a         the transition of p by a, if it is inside, makes pair i count: it has the required bit
@@ -65,9 +66,13 @@ abbrev pub targetFault : ℕ → ℕ → List ℕ → Bool
 targetFault n none ts = any (λ x. not (ltb x n || eqb x none)) ts
 
 -- a bit above pair k, or any bit on a missing transition
+abbrev pub markFault : ℕ → ℕ → ℕ → ℕ → Bool
+markFault k x prohibited required =
+    not (ltb prohibited (2 ^ k) && ltb required (2 ^ k)) || (eqb x noState && not (eqb prohibited 0 && eqb required 0))
+
 abbrev pub marksFault : ℕ → List ℕ → List ℕ → Bool
 marksFault k [] ms = false
-marksFault k (x ∷ ts) ms = (not (ltb (getD ms 0 0) (2 ^ k) && ltb (getD ms 1 0) (2 ^ k)) || (eqb x noState && not (eqb (getD ms 0 0) 0 && eqb (getD ms 1 0) 0))) || marksFault k ts (drop 2 ms)
+marksFault k (x ∷ ts) ms = markFault k x (getD ms 0 0) (getD ms 1 0) || marksFault k ts (drop 2 ms)
 
 unfoldable pub tableFault : List ℕ → ℕ
 tableFault bs =

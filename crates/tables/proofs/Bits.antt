@@ -2,16 +2,21 @@
 --     bit-or             the bits of two words together
 --     bit-one            the bits of a word with one bit
 --     bit-none           no bit of 0 is set
+--     one-shifted        a word with one bit, as a shift makes it
+--     as-bits-below, as-bits-more, as-bits-at     the number whose bits pass a test, one number more, and its bits
+--     bits-determine, bits-are      numbers with the same bits are equal
 use mathlib.Core.Path.{_≡_, refl, sym, ap, _∙_}
 use mathlib.Core.Bool.{Bool, true, false, _||_}
 use Prim.Native.Nat.{ℕ, zero, suc, _+_, _-_, _*_, _/_, _%_, _^_, max, _<_, _≤_}
-use native.Mathlib.Nat.{mod-lt, one-mul, pow-suc, div-eq-of-lt, zero-div}
+use native.Mathlib.Nat.{mod-lt, one-mul, pow-suc, div-eq-of-lt, zero-div, div-one, zero-add, not-suc-le-zero}
+use native.Mathlib.Numerals.{add-one}
 use native.Mathlib.Omega.{arith}
 use lib.Dec.{eqb, ltb, lit<}
-use lib.Bits.{bitOr, or-step, or-shr}
-use lib.Pow.{pow-lt, pow-add, shl-exact, shl-shr}
+use lib.Bits.{bitOr, or-step, or-shr, or-shifted}
+use lib.Pow.{pow-lt, pow-add, shl-exact, shl-shr, shr-shr}
 use borrow.Author.Tests.{eqb-true, eqb-false, eq-eqb, ne-eqb, ltb-true, ltb-false}
-use Rattle.rules.specs.Basics.{bit}
+use Rattle.rules.specs.Basics.{bit, when}
+use Rattle.tables.specs.Words.{asBits}
 use Rattle.rules.proofs.Bools.{by}
 
 -- two digits, of which one is 1
@@ -56,6 +61,72 @@ bit-one q j =
     (λ e. rw (e, ← eqb-true q j e) (bit-same q))
     (λ e. let d = eqb-false q j e in by (ltb q j) (λ l. rw e (bit-above q j (ltb-true q j l))) (λ l. let g = ltb-false q j l in rw e (bit-below q j (omega arith))))
 
--- the word that the code shifts
-pub shifted : (q : ℕ) → q < 64 → 1 * 2 ^ q % 2 ^ 64 ≡ 2 ^ q
-shifted q l = shl-exact 1 q 64 (lit< tt) (omega arith) ∙ one-mul (2 ^ q)
+-- the word with one bit, as a shift makes it
+pub one-shifted : (w q : ℕ) → q < w → 1 * 2 ^ q % 2 ^ w ≡ 2 ^ q
+one-shifted w q l = shl-exact 1 q w (lit< tt) (omega arith) ∙ one-mul (2 ^ q)
+
+-- the number whose bits are the numbers that pass a test
+bit-over : (k w : ℕ) → w < 2 ^ k → bit k w ≡ false
+bit-over k w l = rw (div-eq-of-lt l)
+
+bit-more : (k w j : ℕ) → w < 2 ^ k → bit j (2 ^ k + w) ≡ eqb k j || bit j w
+bit-more k w j l =
+    let e : bitOr (1 * 2 ^ k) w ≡ 1 * 2 ^ k + w = or-shifted 1 k w l in
+    let d : bitOr (2 ^ k) w ≡ 2 ^ k + w = rw (one-mul (2 ^ k)) at e in
+    rw (← d, bit-or j (2 ^ k) w, bit-one k j)
+
+module _ (b : ℕ → Bool) where
+  pub as-bits-below : (k : ℕ) → asBits k b < 2 ^ k
+  as-bits-below zero = lit< tt
+  as-bits-below (suc k) =
+      rw (pow-suc 2 k) (by (b k) (λ e. rw e (omega (arith, as-bits-below k))) (λ e. rw e (omega (arith, as-bits-below k))))
+
+  pub as-bits-more : (a v w : ℕ) (taken : Bool) → v ≡ asBits a b → taken ≡ b a → w ≡ when taken (2 ^ a) + v → w ≡ asBits (a + 1) b
+  as-bits-more a v w taken e t h = h ∙ rw (add-one a, t, e)
+
+  pub as-bits-at : (k j : ℕ) → j < k → bit j (asBits k b) ≡ b j
+  as-bits-at zero j l = absurd (not-suc-le-zero l)
+  as-bits-at (suc k) j l =
+      by
+      (eqb j k)
+      (λ e. rw (eqb-true j k e) top)
+      (λ e. let d = eqb-false j k e in lower (omega arith) ∙ as-bits-at k j (omega arith))
+    where
+      w : ℕ
+      w = asBits k b
+
+      top : bit k (when (b k) (2 ^ k) + w) ≡ b k
+      top =
+          by
+          (b k)
+          (λ e. rw e (bit-more k w k (as-bits-below k) ∙ rw (eq-eqb k k refl)))
+          (λ e. rw (e, zero-add w) (bit-over k w (as-bits-below k)))
+
+      lower : j < k → bit j (when (b k) (2 ^ k) + w) ≡ bit j w
+      lower h =
+          by
+          (b k)
+          (λ e. rw e (bit-more k w j (as-bits-below k) ∙ rw (ne-eqb k j (λ d. omega arith))))
+          (λ e. rw (e, zero-add w))
+
+-- numbers with the same bits are equal
+digits-same : (x y : ℕ) → x < 2 → y < 2 → eqb x 1 ≡ eqb y 1 → x ≡ y
+digits-same x y l r h =
+    by
+    (eqb x 1)
+    (λ e. eqb-true x 1 e ∙ sym (eqb-true y 1 (sym h ∙ e)))
+    (λ e. let d = eqb-false x 1 e in let f = eqb-false y 1 (sym h ∙ e) in omega arith)
+
+pub bits-determine : (k v w : ℕ) → v < 2 ^ k → w < 2 ^ k → ((j : ℕ) → j < k → bit j v ≡ bit j w) → v ≡ w
+bits-determine zero v w lv lw h = omega arith
+bits-determine (suc k) v w lv lw h =
+    let p = pow-suc 2 k in
+    let low : v % 2 ≡ w % 2 = digits-same (v % 2) (w % 2) (omega arith) (omega arith) (rw (div-one v, div-one w) at (h 0 (omega arith))) in
+    let up : v / 2 ≡ w / 2 = bits-determine k (v / 2) (w / 2) (omega arith) (omega arith) (λ j l. half v j ∙ h (suc j) (omega arith) ∙ sym (half w j)) in
+    omega arith
+  where
+    half : (x j : ℕ) → bit j (x / 2) ≡ bit (suc j) x
+    half x j = let e : x / 2 / 2 ^ j ≡ x / 2 ^ suc j = shr-shr x 1 j ∙ ap (λ (i : ℕ). x / 2 ^ i) (omega arith) in rw e
+
+pub bits-are : (k v : ℕ) (b : ℕ → Bool) → v < 2 ^ k → ((j : ℕ) → j < k → bit j v ≡ b j) → v ≡ asBits k b
+bits-are k v b l h = bits-determine k v (asBits k b) l (as-bits-below b k) (λ j i. h j i ∙ sym (as-bits-at b k j i))

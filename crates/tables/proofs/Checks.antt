@@ -2,21 +2,19 @@
 --     sizes-fault                  the sizes within their ranges, as tests
 --     target-turn, marks-turn      what is left to check after one cell more
 --     target-end, marks-end        no cell is left
---     limit-of                     the first number with a bit above pair k
 use mathlib.Core.Path.{_≡_, refl, sym, _∙_}
 use mathlib.Core.Bool.{Bool, true, false, not, _&&_, _||_, or-assoc, or-false}
 use mathlib.Core.List.{List, [], _∷_}
-use Prim.Native.Nat.{ℕ, zero, suc, _+_, _*_, _^_, _%_, _<_, _≤_}
-use native.Mathlib.Nat.{add-zero, one-mul}
+use Prim.Native.Nat.{ℕ, zero, suc, _+_, _*_, _^_, _<_, _≤_}
+use native.Mathlib.Nat.{add-zero}
 use native.Mathlib.Numerals.{add-one}
 use native.Mathlib.Omega.{arith}
-use lib.Dec.{lit<, eqb, ltb, leb, leb·zero, leb·suc-suc, eqb·suc-zero}
+use lib.Dec.{eqb, ltb, leb, leb·zero, leb·suc-suc, eqb·suc-zero}
 use lib.ListN.{length, getD, drop, drop-of-length-le}
-use lib.Pow.{shl-exact}
 use lib.Seq.{drop-cons, getD-drop, drop-drop}
 use borrow.Author.Tests.{leb-true, leb-false, le-ltb, lt-ltb}
 use Rattle.rules.specs.Limits.{maxStates, maxLetters, maxPairs, noState}
-use Rattle.rules.specs.Tables.{sizesFault, targetFault, marksFault}
+use Rattle.rules.specs.Tables.{sizesFault, targetFault, markFault, marksFault}
 use Rattle.rules.proofs.Bools.{by}
 
 -- a size at the ends of its range
@@ -51,11 +49,8 @@ pub target-end : (n : ℕ) (bad : Bool) (ts : List ℕ) (c : ℕ) → length ts 
     → bad || targetFault n noState (drop c ts) ≡ targetFault n noState ts → bad ≡ targetFault n noState ts
 target-end n bad ts c l h = sym (or-false bad) ∙ (rw (drop-of-length-le ts l) at h)
 
-pub limit-of : (k : ℕ) → k ≤ maxPairs → 1 * 2 ^ k % 256 ≡ 2 ^ k
-limit-of k l = shl-exact 1 k 8 (lit< tt) (omega arith) ∙ one-mul (2 ^ k)
-
 pub marks-turn : (k : ℕ) (bad : Bool) (ts ms : List ℕ) (c : ℕ) → c < length ts
-    → (bad || (not (ltb (getD ms (2 * c) 0) (2 ^ k) && ltb (getD ms (2 * c + 1) 0) (2 ^ k)) || (eqb (getD ts c 0) noState && not (eqb (getD ms (2 * c) 0) 0 && eqb (getD ms (2 * c + 1) 0) 0)))) || marksFault k (drop (c + 1) ts) (drop (2 * (c + 1)) ms)
+    → (bad || markFault k (getD ts c 0) (getD ms (2 * c) 0) (getD ms (2 * c + 1) 0)) || marksFault k (drop (c + 1) ts) (drop (2 * (c + 1)) ms)
     ≡ bad || marksFault k (drop c ts) (drop (2 * c) ms)
 marks-turn k bad ts ms c l =
     let e : 2 * (c + 1) ≡ 2 * c + 2 = omega arith in

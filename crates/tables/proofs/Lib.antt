@@ -5,3 +5,5 @@ pub mod Bits
 pub mod Cells
 pub mod Filling
 pub mod Closure
+pub mod Promises
+pub mod Surveying

@@ -7,9 +7,11 @@ use rules::refusal;
 
 mod check;
 mod reach;
+mod survey;
 mod words;
 
-ghost use Rattle.rules.specs.Says.{CheckSays};
+ghost use Rattle.rules.specs.Says.{CheckSays, ComponentsSay};
+ghost use Rattle.tables.specs.Surveys.{SurveySays};
 
 // The table's refusal, 1 to 6 in document 01's order, 0 where the table is taken.
 pub fn check_table(table: &[u8]) -> u8
@@ -43,5 +45,39 @@ pub fn check_table(table: &[u8]) -> u8
     if check::marks_fault(targets, &table[marks_at..length], k) {
         return refusal::MARKS;
     }
+    0
+}
+
+// The smallest state of each state's component, in the first n entries of `out`.
+pub fn find_components(table: &[u8], out: &mut [u8]) -> u8
+    ensures { λ r. ⌜ ComponentsSay (now (table .entry)) (now (out .entry)) (now (out .exit)) r ⌝ }
+{
+    let refused = check_table(table);
+    if refused != 0 {
+        return refused;
+    }
+    if out.len() < table[0] as usize {
+        return refusal::ARRAYS;
+    }
+    reach::fill_components(table, out);
+    0
+}
+
+// For each state, in the first n entries of both arrays: by which letters it stays in its component, and which pairs count there.
+pub fn survey_table(table: &[u8], inside: &mut [u16], counted: &mut [u8]) -> u8
+    ensures { λ r. ⌜ SurveySays (now (table .entry)) (now (inside .entry)) (now (inside .exit)) (now (counted .entry)) (now (counted .exit)) r ⌝ }
+{
+    let refused = check_table(table);
+    if refused != 0 {
+        return refused;
+    }
+    let n = table[0] as usize;
+    if (inside.len() < n) | (counted.len() < n) {
+        return refusal::ARRAYS;
+    }
+    let mut components = [0; MAX_STATES as usize];
+    reach::fill_components(table, &mut components);
+    survey::write_inside(table, &components, inside);
+    survey::write_counted(table, &components, inside, counted);
     0
 }

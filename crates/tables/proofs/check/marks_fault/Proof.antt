@@ -6,7 +6,8 @@ use native.Mathlib.Omega.{arith}
 use borrow.Author.Needs.{needs}
 use lib.ListN.{length, drop}
 use Rattle.rules.specs.Tables.{marksFault}
-use Rattle.tables.proofs.Checks.{limit-of, marks-turn, marks-end}
+use Rattle.tables.proofs.Checks.{marks-turn, marks-end}
+use Rattle.tables.proofs.Bits.{one-shifted}
 use Rattle.tables.proofs.check.marks_fault.Statement.{statement}
 use Rattle.tables.proofs.check.marks_fault.Tie as tie
 use Rattle.tables.proofs.check.marks_fault.Reads as reads
@@ -52,7 +53,7 @@ loop-again : tie.Need-loop-again Inv-loop μ-loop
 loop-again c = let s = c .before .before .before .before .before in
     let i = c .before .before .before .before .loop in
     let l : i .c < length (s .args .targets .now) = omega arith in
-    (omega arith, rw (limit-of (s .args .k) (s .pre .1)) (marks-turn (s .args .k) (i .bad) (s .args .targets .now) (s .args .marks .now) (i .c) l) ∙ i .inv .1)
+    (omega arith, rw (one-shifted 8 (s .args .k) (omega arith)) (marks-turn (s .args .k) (i .bad) (s .args .targets .now) (s .args .marks .now) (i .c) l) ∙ i .inv .1)
 
 returns : tie.Need-returns Inv-loop μ-loop
 returns c = marks-end _ _ _ _ _ (c .loop-test .left) (c .before .loop .inv .1)

@@ -1,7 +1,7 @@
 -- `tables::words::with` meets its contract.
 use Prim.Native.Nat.{_^_}
 use borrow.Author.Needs.{needs}
-use Rattle.tables.proofs.Bits.{bit-or, bit-one, shifted}
+use Rattle.tables.proofs.Bits.{bit-or, bit-one, one-shifted}
 use Rattle.tables.proofs.words.with.Statement.{statement}
 use Rattle.tables.proofs.words.with.Tie as tie
 use Rattle.tables.proofs.words.with.Reads as reads
@@ -11,7 +11,7 @@ shl-result : tie.Need-shl-result
 shl-result c = search needs
 
 returns : tie.Need-returns
-returns c = λ j. rw (shifted (c .args .q) (c .pre), bit-or j (c .args .set) (2 ^ c .args .q), bit-one (c .args .q) j)
+returns c = λ j. rw (one-shifted 64 (c .args .q) (c .pre), bit-or j (c .args .set) (2 ^ c .args .q), bit-one (c .args .q) j)
 
 pub with-spec : {M : Type 1} → statement M
 with-spec = tie.close (tie.spec shl-result returns)

@@ -1,0 +1,102 @@
+-- `tables::survey::inside_letters` meets its contract. The invariant: the letters below a that stay inside are found.
+use mathlib.Core.Path.{_≡_, refl, ap, _∙_}
+use Prim.Native.Nat.{ℕ, _-_, _*_, _≤_}
+use native.Mathlib.Nat.{le-antisymm}
+use native.Mathlib.Omega.{arith}
+use borrow.Author.Needs.{needs}
+use Rattle.rules.specs.Systems.{isInside}
+use Rattle.rules.specs.Tables.{tableOf, systemOf}
+use Rattle.tables.specs.Words.{asBits}
+use Rattle.tables.proofs.Bits.{as-bits-below, as-bits-more}
+use Rattle.tables.proofs.Cells.{Sized, sized, row-within, cell-byte, target-byte}
+use Rattle.tables.proofs.Surveying.{home-inside}
+use Rattle.tables.proofs.survey.inside_letters.Statement.{statement}
+use Rattle.tables.proofs.survey.inside_letters.Tie as tie
+use Rattle.tables.proofs.survey.inside_letters.Reads as reads
+use Rattle.tables.proofs.survey.inside_letters.Lts as lts
+use Rattle.tables.proofs.survey.is_home.Reads as is-home-reads
+use Rattle.tables.proofs.survey.with_letter.Reads as with-letter-reads
+
+abbrev Inv-loop : tie.InvT-loop
+Inv-loop table components q n m first home letters₀ a₀ letters a = (a ≤ tableOf table .letters) × (letters ≡ asBits a (isInside (systemOf (tableOf table)) q))
+
+abbrev μ-loop : tie.MeasureT-loop
+μ-loop table components q n m first home letters₀ a₀ letters a = m - a
+
+known : (c : tie.Start Inv-loop μ-loop) → Sized (c .args .table .now)
+known c = sized _ (c .pre .0)
+
+room : (c : tie.Start Inv-loop μ-loop) → c .args .q * tableOf (c .args .table .now) .letters ≤ tableOf (c .args .table .now) .states * tableOf (c .args .table .now) .letters
+room c = row-within _ _ (c .args .q) (c .pre .1)
+
+shared-slice-read-n : tie.Need-shared-slice-read-n Inv-loop μ-loop
+shared-slice-read-n c = omega (arith, known (c .before .before .before))
+
+shared-slice-read-m : tie.Need-shared-slice-read-m Inv-loop μ-loop
+shared-slice-read-m c = omega (arith, known (c .before .before .before .before))
+
+cast-m : tie.Need-cast-m Inv-loop μ-loop
+cast-m c = omega (arith, known (c .before .before .before .before))
+
+mul-first : tie.Need-mul-first Inv-loop μ-loop
+mul-first c = omega (arith, known (c .before .before .before .before), room (c .before .before .before .before))
+
+add-first : tie.Need-add-first Inv-loop μ-loop
+add-first c = omega (arith, known (c .before .before .before .before), room (c .before .before .before .before))
+
+shared-slice-read-home : tie.Need-shared-slice-read-home Inv-loop μ-loop
+shared-slice-read-home c = omega (arith, (c .before .before .before .before .before) .pre .1, (c .before .before .before .before .before) .pre .2 .enough)
+
+loop-holds : tie.Need-loop-holds Inv-loop μ-loop
+loop-holds c = (search needs, refl)
+
+add-is-home : tie.Need-add-is-home Inv-loop μ-loop
+add-is-home c = omega (arith, known (c .before .before .before .before .before .before .before), room (c .before .before .before .before .before .before .before))
+
+shared-slice-read-is-home : tie.Need-shared-slice-read-is-home Inv-loop μ-loop
+shared-slice-read-is-home c = let s = c .before .before .before .before .before .before .before .before in cell-byte _ (s .pre .0) (s .args .q) _ (s .pre .1) (c .before .loop-test .taken)
+
+is-home-requires : tie.Need-is-home-requires Inv-loop μ-loop
+is-home-requires c κs = c .before .before .before .before .before .before .before .before .pre .2 .enough
+
+with-letter-requires : tie.Need-with-letter-requires Inv-loop μ-loop
+with-letter-requires c κs = (omega (arith, known (c .before .before .before .before .before .before .before .before .before)), rw (c .before .before .before .loop .inv .1) (as-bits-below _ (c .before .before .before .loop .a)))
+
+add-a : tie.Need-add-a Inv-loop μ-loop
+add-a c = omega (arith, known (c .before .before .before .before .before .before .before .before .before .before))
+
+loop-less : tie.Need-loop-less Inv-loop μ-loop
+loop-less c = omega arith
+
+loop-again : tie.Need-loop-again Inv-loop μ-loop
+loop-again c = let s = c .before .before .before .before .before .before .before .before .before .before in
+    let t = systemOf (tableOf (s .args .table .now)) in
+    let i = c .before .before .before .before .loop in
+    let home = rw (target-byte _ (s .pre .0) (s .args .q) (i .a) (s .pre .1) (c .before .before .before .loop-test .taken)) at (home-inside t (s .args .components .now) (s .pre .2) (s .args .q) (i .a) (s .pre .1)) in
+    (omega arith, as-bits-more (isInside t (s .args .q)) (i .a) (i .letters) (c .with-letter .result) (c .before .is-home .result) (i .inv .1) (c .before .is-home .ensures ∙ home) (c .with-letter .ensures))
+
+returns : tie.Need-returns Inv-loop μ-loop
+returns c = let s = c .before .before .before .before .before .before .before in
+    c .before .loop .inv .1 ∙ ap (λ (x : ℕ). asBits x (isInside (systemOf (tableOf (s .args .table .now))) (s .args .q))) (le-antisymm (c .before .loop .inv .0) (c .loop-test .left))
+
+pub inside-letters-spec : {M : Type 1} → statement M
+inside-letters-spec =
+    tie.close
+    (tie.spec
+    Inv-loop
+    μ-loop
+    shared-slice-read-n
+    shared-slice-read-m
+    cast-m
+    mul-first
+    add-first
+    shared-slice-read-home
+    loop-holds
+    add-is-home
+    shared-slice-read-is-home
+    is-home-requires
+    with-letter-requires
+    add-a
+    loop-less
+    loop-again
+    returns)

@@ -1,0 +1,19 @@
+-- `tables::survey::is_home` meets its contract.
+use borrow.Author.Needs.{needs}
+use borrow.Author.Tests.{lt-ltb, le-ltb}
+use Rattle.tables.proofs.survey.is_home.Statement.{statement}
+use Rattle.tables.proofs.survey.is_home.Tie as tie
+use Rattle.tables.proofs.survey.is_home.Reads as reads
+use Rattle.tables.proofs.survey.is_home.Lts as lts
+
+shared-slice-read-result : tie.Need-shared-slice-read-result
+shared-slice-read-result c = search needs
+
+returns : tie.Need-returns
+returns c = rw (lt-ltb _ _ (c .before .if1 .taken))
+
+returns-2 : tie.Need-returns-2
+returns-2 c = rw (le-ltb _ _ (c .if1 .left))
+
+pub is-home-spec : {M : Type 1} → statement M
+is-home-spec = tie.close (tie.spec shared-slice-read-result returns returns-2)

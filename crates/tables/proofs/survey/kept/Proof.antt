@@ -1,0 +1,26 @@
+-- `tables::survey::kept` meets its contract.
+use mathlib.Core.Path.{sym, _∙_}
+use native.Mathlib.Nat.{le-refl}
+use native.Mathlib.Omega.{arith}
+use borrow.Author.Needs.{needs}
+use borrow.Author.Tests.{eq-eqb, ne-eqb}
+use Rattle.tables.proofs.Bits.{bit-none}
+use Rattle.tables.proofs.survey.kept.Statement.{statement}
+use Rattle.tables.proofs.survey.kept.Tie as tie
+use Rattle.tables.proofs.survey.kept.Reads as reads
+use Rattle.tables.proofs.survey.kept.Lts as lts
+
+cast-if1 : tie.Need-cast-if1
+cast-if1 c = search needs
+
+shr-if1 : tie.Need-shr-if1
+shr-if1 c = search needs
+
+returns : tie.Need-returns
+returns c = (λ j. rw (eq-eqb _ _ (c .if1 .taken)), search needs)
+
+returns-2 : tie.Need-returns-2
+returns-2 c = (λ j. bit-none j ∙ rw (ne-eqb _ _ (c .if1 .left)), search needs)
+
+pub kept-spec : {M : Type 1} → statement M
+kept-spec = tie.close (tie.spec cast-if1 shr-if1 returns returns-2)
