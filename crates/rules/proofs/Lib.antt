@@ -1,6 +1,7 @@
 -- The laws about the rules, bottom first.
 pub mod Bools
 pub mod Sets
+pub mod Bits
 pub mod Reach
 pub mod Appearance
 pub mod Pigeonhole
@@ -10,6 +11,7 @@ pub mod Walks
 pub mod Agreement
 pub mod Exploration
 pub mod Arrays
+pub mod Filling
 pub mod Steps
 pub mod Refusals
 pub mod Demand3

@@ -15,10 +15,12 @@
 --     largest g xs       the largest g x, 0 if there is none
 --     isEven n           n is even
 --     bit i v            bit i of v is set, counted from 0
+--     asBits k b         the number whose bits are the numbers below k that pass the test b
+--     SameBelow n r t    the relations r and t are the same on the numbers below n
 use mathlib.Core.Path.{_≡_}
 use mathlib.Core.Bool.{Bool, true, false, _||_}
 use mathlib.Core.List.{List, [], _∷_, _++_}
-use Prim.Native.Nat.{ℕ, zero, suc, _/_, _%_, _^_, max}
+use Prim.Native.Nat.{ℕ, zero, suc, _+_, _/_, _%_, _^_, max, _<_}
 use lib.Dec.{eqb}
 
 abbrev pub pick : {A : Type 0} → Bool → A → A → A
@@ -80,3 +82,10 @@ isEven n = eqb (n % 2) 0
 
 abbrev pub bit : ℕ → ℕ → Bool
 bit i v = eqb (v / 2 ^ i % 2) 1
+
+abbrev pub asBits : ℕ → (ℕ → Bool) → ℕ
+asBits zero b = 0
+asBits (suc k) b = when (b k) (2 ^ k) + asBits k b
+
+abbrev pub SameBelow : ℕ → (ℕ → ℕ → Bool) → (ℕ → ℕ → Bool) → Type 0
+SameBelow n r t = (p : ℕ) → p < n → (q : ℕ) → q < n → r p q ≡ t p q

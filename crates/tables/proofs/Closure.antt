@@ -3,22 +3,19 @@
 --     links-more, links-all      one letter more; all letters
 --     Joined k through old new   the set new is old and, where old has k, what through holds
 --     stage-done                 rows joined through row k hold the chains that pass through states up to k
---     bothWays rows q i            row q holds i and row i holds q
---     first-met, first-self      the first state that shares q's component is found: below q, or q itself
-use mathlib.Core.Path.{_≡_, refl, sym, ap, _∙_}
-use mathlib.Core.Bool.{Bool, true, false, _&&_, _||_, or-comm}
+use mathlib.Core.Path.{_≡_, ap, _∙_}
+use mathlib.Core.Bool.{Bool, _&&_, _||_, or-comm}
 use mathlib.Core.List.{List}
-use Prim.Native.Nat.{ℕ, suc, _+_, _<_}
+use Prim.Native.Nat.{ℕ, _+_, _<_}
 use native.Mathlib.Numerals.{add-one}
-use native.Mathlib.Omega.{arith}
-use lib.Dec.{eqb, ltb}
+use lib.Dec.{eqb}
 use lib.ListN.{getD}
 use borrow.Author.Tests.{lt-ltb}
 use Rattle.rules.specs.Basics.{anyBelow, bit}
-use Rattle.rules.specs.Systems.{System, linked, via, together, componentOf}
-use Rattle.rules.proofs.Reach.{together-chains, together-refl, component-is}
-use Rattle.tables.specs.Words.{HoldsOf, Holds}
-use Rattle.tables.proofs.Filling.{Filled}
+use Rattle.rules.specs.Systems.{System, linked, via}
+use Rattle.rules.proofs.Reach.{via-stage}
+use Rattle.tables.specs.Words.{HoldsOf, has, Holds}
+use Rattle.rules.proofs.Filling.{Filled}
 
 abbrev pub LinksBelow : System → ℕ → ℕ → ℕ → Type 0
 LinksBelow s q a set = HoldsOf (s .states) (λ p. anyBelow a (λ b. eqb (s .go q b) p)) set
@@ -37,21 +34,4 @@ Joined k through old new = (q : ℕ) → bit q new ≡ bit q old || (bit k old &
 
 pub stage-done : (e : ℕ → ℕ → Bool) (n k : ℕ) (old new : List ℕ) → k < n
     → Filled (λ p v. Joined k (getD old k 0) (getD old p 0) v) old new n → Holds n (via e k) old → Holds n (via e (k + 1)) new
-stage-done e n k old new l f h p lp q lq =
-    f .done p lp q ∙ rw (add-one k, h p lp q lq, h p lp k l, h k l q lq)
-
--- the first state that shares q's component
-abbrev pub bothWays : List ℕ → ℕ → ℕ → Bool
-bothWays rows q i = bit i (getD rows q 0) && bit q (getD rows i 0)
-
-module _ (s : System) (rows : List ℕ) (h : Holds (s .states) (via (linked s) (s .states)) rows) (q : ℕ) (l : q < s .states) where
-  ways-together : (i : ℕ) → i < q → bothWays rows q i ≡ together s q i
-  ways-together i b =
-      let li : i < s .states = omega arith in rw (h q l i li, h i li q l) (sym (together-chains s q i (λ e. omega arith)))
-
-  pub first-met : (p : ℕ) → p < q → bothWays rows q p ≡ true → ((i : ℕ) → i < p → bothWays rows q i ≡ false) → p ≡ componentOf s q
-  first-met p b m none =
-      component-is s q p l (sym (ways-together p b) ∙ m) (λ i c. sym (ways-together i (omega arith)) ∙ none i c)
-
-  pub first-self : ((i : ℕ) → i < q → bothWays rows q i ≡ false) → q ≡ componentOf s q
-  first-self none = component-is s q q l (together-refl s q) (λ i c. sym (ways-together i c) ∙ none i c)
+stage-done e n k old new l f h = rw (add-one k) (via-stage e n k (has old) (has new) l h (λ p lp q lq. f .done p lp q))

@@ -1,9 +1,7 @@
 -- The laws that the proofs of the functions cite.
 pub mod Checks
 pub mod Refused
-pub mod Bits
 pub mod Cells
-pub mod Filling
 pub mod Closure
 pub mod Promises
 pub mod Surveying

@@ -1,16 +1,15 @@
 -- From what a call found to what it promises: refused by the table, an array too short, or done.
-use mathlib.Core.Path.{_≡_, refl, sym, _∙_}
-use mathlib.Core.Bool.{Bool, true, false, _||_}
+use mathlib.Core.Path.{_≡_, refl}
+use mathlib.Core.Bool.{true, false, _||_}
 use mathlib.Core.List.{List}
 use Prim.Native.Nat.{ℕ, zero, suc, _<_, _≤_}
 use lib.Dec.{eqb·suc-zero, ltb}
 use lib.ListN.{length}
 use borrow.Author.Tests.{lt-ltb, le-ltb}
-use Rattle.rules.specs.Basics.{tabulate}
 use Rattle.rules.specs.Refusals as Refusal
 use Rattle.rules.specs.Tables.{tableOf, tableFault}
 use Rattle.rules.specs.Says.{over, components, ComponentsSay}
-use Rattle.tables.specs.Surveys.{insideLetters, countedPairs, SurveySays}
+use Rattle.tables.specs.Surveys.{insideSets, countedSets, SurveySays}
 
 pub components-refused : (bs o : List ℕ) (r : ℕ) → r ≡ tableFault bs → (r ≡ 0 → ⊥) → ComponentsSay bs o o r
 components-refused bs o zero e d = absurd (d refl)
@@ -34,6 +33,6 @@ module _ (bs : List ℕ) (taken : tableFault bs ≡ 0) where
   survey-short i c e = record { number = rw (taken, e); inside-array = refl; counted-array = refl }
 
   pub surveyed : (i i′ c c′ : List ℕ) → ltb (length i) (tableOf bs .states) || ltb (length c) (tableOf bs .states) ≡ false
-      → i′ ≡ over (tabulate (tableOf bs .states) 0 (insideLetters (tableOf bs))) i
-      → c′ ≡ over (tabulate (tableOf bs .states) 0 (countedPairs (tableOf bs))) c → SurveySays bs i i′ c c′ 0
+      → i′ ≡ over (insideSets (tableOf bs)) i
+      → c′ ≡ over (countedSets (tableOf bs)) c → SurveySays bs i i′ c c′ 0
   surveyed i i′ c c′ e hi hc = record { number = rw (taken, e); inside-array = hi; counted-array = hc }

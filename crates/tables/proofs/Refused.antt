@@ -1,5 +1,5 @@
 -- The refusals of a table in their order: each is given where its test is the first that holds.
-use mathlib.Core.Path.{_≡_, refl}
+use mathlib.Core.Path.{_≡_}
 use mathlib.Core.Bool.{true, false}
 use mathlib.Core.List.{List}
 use Prim.Native.Nat.{ℕ, _+_, _-_, _*_, _≤_}
@@ -7,7 +7,7 @@ use native.Mathlib.Nat.{mul-le-mul}
 use native.Mathlib.Omega.{arith}
 use lib.Dec.{ltb, leb}
 use lib.ListN.{length, take, drop, length-take, length-drop}
-use Rattle.rules.specs.Basics.{when}
+use Rattle.rules.specs.Basics.{firstOf, when}
 use Rattle.rules.specs.Limits.{headerSize, maxStates, maxLetters, noState}
 use Rattle.rules.specs.Refusals as Refusal
 use Rattle.rules.specs.Tables.{tableOf, tableFault, sizesFault, tableLength, targetFault, marksFault}
@@ -55,12 +55,7 @@ module _ (bs : List ℕ) where
           unfolding tableFault
           start-bad a = rw (whole, sizes, enough, exact, a)
 
-          module _ (start : leb (tableOf bs .states) (tableOf bs .start) ≡ false) where
-            pub target-bad : targetFault (tableOf bs .states) noState (tableOf bs .targets) ≡ true → CheckSays bs Refusal.target
-            unfolding tableFault
-            target-bad a = rw (whole, sizes, enough, exact, start, a)
-
-            pub marks-last : targetFault (tableOf bs .states) noState (tableOf bs .targets) ≡ false
-                → CheckSays bs (when (marksFault (tableOf bs .pairs) (tableOf bs .targets) (tableOf bs .marks)) Refusal.marks)
-            unfolding tableFault
-            marks-last a = rw (whole, sizes, enough, exact, start, a)
+          pub cells-judged : leb (tableOf bs .states) (tableOf bs .start) ≡ false
+              → CheckSays bs (firstOf (when (targetFault (tableOf bs .states) noState (tableOf bs .targets)) Refusal.target) (when (marksFault (tableOf bs .pairs) (tableOf bs .targets) (tableOf bs .marks)) Refusal.marks))
+          unfolding tableFault
+          cells-judged a = rw (whole, sizes, enough, exact, a)

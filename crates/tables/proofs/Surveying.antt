@@ -1,14 +1,14 @@
 -- Turns of the survey's loops and what they come to, for any system and any tests on its transitions.
 --     component-below    the number of a component is a state
---     numbered           the numbers of the components, once they are written
---     home-inside        which transitions are inside, by the numbers of components
+--     listed             an array with a list at its front
+--     home-inside, target-inside     which transitions are inside, by the numbers of components; the same from a table's bytes
 --     gathered-none, gathered-more     what each component meets, one state more
 --     gathered-met       what is met within a state's component
 --     MetBelow, met-more     what the letters below a meet, one letter more
-use mathlib.Core.Path.{_≡_, refl, sym, ap, _∙_}
-use mathlib.Core.Bool.{Bool, true, false, _&&_, _||_, or-comm}
+use mathlib.Core.Path.{_≡_, refl, sym, _∙_}
+use mathlib.Core.Bool.{Bool, _&&_, or-comm}
 use mathlib.Core.List.{List}
-use Prim.Native.Nat.{ℕ, zero, suc, _+_, _^_, _<_, _≤_}
+use Prim.Native.Nat.{ℕ, _+_, _*_, _^_, _<_, _≤_}
 use native.Mathlib.Nat.{lt-of-le-of-lt}
 use native.Mathlib.Numerals.{add-one}
 use native.Mathlib.Omega.{arith}
@@ -20,14 +20,20 @@ use lib.Seq.{getD-set-same, getD-set-other}
 use borrow.Author.Tests.{eqb-true, eqb-false, eq-eqb, ne-eqb, ltb-true}
 use Rattle.rules.specs.Basics.{bit, anyBelow, tabulate}
 use Rattle.rules.specs.Says.{over}
+use Rattle.rules.specs.Limits.{headerSize}
+use Rattle.rules.specs.Tables.{tableOf}
 use Rattle.rules.specs.Systems.{System, isInside, componentOf, metWithin}
 use Rattle.rules.proofs.Bools.{by}
 use Rattle.rules.proofs.Sets.{below-same}
 use Rattle.rules.proofs.Reach.{together-refl, component-least, inside-component, met-component}
-use Rattle.tables.specs.Words.{asBits}
-use Rattle.tables.specs.Gathering.{Numbered, Gathered}
-use Rattle.tables.proofs.Filling.{over-at}
-use Rattle.tables.proofs.Bits.{bit-or, bit-none, as-bits-at, bits-are}
+use Rattle.rules.specs.Basics.{asBits}
+use Rattle.tables.specs.Parts.{Taken, statesOf, systemIn, Listed, Gathered}
+use Rattle.tables.proofs.Cells.{target-byte}
+use Rattle.rules.proofs.Filling.{over-at}
+use Rattle.rules.proofs.Bits.{bit-or, bit-none, as-bits-at, bits-are}
+
+pub listed : (n : ℕ) (g : ℕ → ℕ) (old xs : List ℕ) → n ≤ length xs → xs ≡ over (tabulate n 0 g) old → Listed n g xs
+listed n g old xs l e = record { enough = l; entry = λ q b. rw e (over-at g n old q b) }
 
 -- what the letters below a of one state meet, where `letters` holds those to look at
 abbrev pub MetBelow : (ℕ → ℕ → ℕ → Bool) → ℕ → ℕ → ℕ → ℕ → Type 0
@@ -42,15 +48,11 @@ module _ (s : System) where
   pub component-below : (q : ℕ) → q < s .states → componentOf s q < s .states
   component-below q l = lt-of-le-of-lt (component-least s q q (together-refl s q)) l
 
-  pub numbered : (old components : List ℕ) → s .states ≤ length components → components ≡ over (tabulate (s .states) 0 (componentOf s)) old
-      → Numbered s components
-  numbered old components l e = record { enough = l; number = λ q b. rw e (over-at (componentOf s) (s .states) old q b) }
-
-  pub home-inside : (components : List ℕ) → Numbered s components → (q a : ℕ) → q < s .states
+  pub home-inside : (components : List ℕ) → Listed (s .states) (componentOf s) components → (q a : ℕ) → q < s .states
       → ltb (s .go q a) (s .states) && eqb (getD components (s .go q a) 0) (getD components q 0) ≡ isInside s q a
   home-inside components f q a l =
-      rw (inside-component s q a l, f .number q l)
-      (by (ltb (s .go q a) (s .states)) (λ e. rw (e, f .number (s .go q a) (ltb-true (s .go q a) (s .states) e))) (λ e. rw e))
+      rw (inside-component s q a l, f .entry q l)
+      (by (ltb (s .go q a) (s .states)) (λ e. rw (e, f .entry (s .go q a) (ltb-true (s .go q a) (s .states) e))) (λ e. rw e))
 
   module _ (b : ℕ → ℕ → ℕ → Bool) (k : ℕ) where
     pub gathered-none : (sets : List ℕ) → ((c : ℕ) → getD sets c 0 ≡ 0) → Gathered s b k 0 sets
@@ -93,14 +95,22 @@ module _ (s : System) where
             (λ d. rw (eqb-true c home d, getD-set-same sets home (bitOr (getD sets home 0) met) 0 room) (or-lt k (getD sets home 0) met (g .below home) small))
             (λ d. rw (getD-set-other sets home c (bitOr (getD sets home 0) met) 0 (eqb-false c home d)) (g .below c))
 
-    pub gathered-more : (components sets : List ℕ) (q letters met : ℕ) → Numbered s components → q < s .states → s .states ≤ length sets
+    pub gathered-more : (components sets : List ℕ) (q letters met : ℕ) → Listed (s .states) (componentOf s) components → q < s .states → s .states ≤ length sets
         → letters ≡ asBits (s .letters) (isInside s q) → MetBelow b q letters (s .letters) met → met < 2 ^ k → Gathered s b k q sets
         → Gathered s b k (q + 1) (set sets (getD components q 0) (bitOr (getD sets (getD components q 0) 0) met))
     gathered-more components sets q letters met f l e h m small g =
-        rw (f .number q l) (gathered-at q sets met l e (rw h at m) small g)
+        rw (f .entry q l) (gathered-at q sets met l e (rw h at m) small g)
 
-    pub gathered-met : (components sets : List ℕ) → Numbered s components → Gathered s b k (s .states) sets → (q : ℕ) → q < s .states
+    pub gathered-met : (components sets : List ℕ) → Listed (s .states) (componentOf s) components → Gathered s b k (s .states) sets → (q : ℕ) → q < s .states
         → getD sets (getD components q 0) 0 ≡ asBits k (λ i. metWithin s (b i) q)
     gathered-met components sets f g q l =
-        rw (f .number q l)
+        rw (f .entry q l)
         (bits-are k (getD sets (componentOf s q) 0) (λ i. metWithin s (b i) q) (g .below (componentOf s q)) (λ i li. g .tests (componentOf s q) i (component-below q l) ∙ sym (met-component s (b i) q l)))
+
+-- of a table that is taken, from its bytes
+pub target-inside : (bs components : List ℕ) → Taken bs → Listed (statesOf bs) (componentOf (systemIn bs)) components
+    → (q a : ℕ) → q < statesOf bs → a < tableOf bs .letters → (stays : Bool)
+    → stays ≡ (let target = getD bs (headerSize + q * tableOf bs .letters + a) 0 in ltb target (statesOf bs) && eqb (getD components target 0) (getD components q 0))
+    → stays ≡ isInside (systemIn bs) q a
+target-inside bs components taken f q a l r stays e =
+    e ∙ (rw (target-byte bs taken q a l r) at (home-inside (systemIn bs) components f q a l))

@@ -1,4 +1,4 @@
--- What the calls of this crate promise beyond the rules.
+-- What the crate's own contracts cite beyond the rules.
 pub mod Words
 pub mod Surveys
-pub mod Gathering
+pub mod Parts

@@ -1,7 +1,7 @@
-// Tables.
+// Checks a Rabin table, finds its components, and works out once a table what a translation asks of each state again and again.
+// It rests on `rules`: `check_table` and `find_components` keep the promises `CheckSays` and `ComponentsSay` there, and
+// `survey_table` keeps `SurveySays` of this crate, for every byte string and every array.
 use rules::limit::HEADER_SIZE;
-use rules::limit::MAX_LETTERS;
-use rules::limit::MAX_PAIRS;
 use rules::limit::MAX_STATES;
 use rules::refusal;
 
@@ -13,7 +13,7 @@ mod words;
 ghost use Rattle.rules.specs.Says.{CheckSays, ComponentsSay};
 ghost use Rattle.tables.specs.Surveys.{SurveySays};
 
-// The table's refusal, 1 to 6 in document 01's order, 0 where the table is taken.
+// The table's refusal, 1 to 6 in document 01's order, or 0 where the table is taken.
 pub fn check_table(table: &[u8]) -> u8
     ensures { λ r. ⌜ CheckSays (now (table .entry)) r ⌝ }
 {
@@ -39,10 +39,12 @@ pub fn check_table(table: &[u8]) -> u8
     }
     let marks_at = HEADER_SIZE + cells;
     let targets = &table[HEADER_SIZE..marks_at];
-    if check::target_fault(targets, n) {
+    let bad_target = check::target_fault(targets, n);
+    let bad_marks = check::marks_fault(targets, &table[marks_at..length], k);
+    if bad_target {
         return refusal::TARGET;
     }
-    if check::marks_fault(targets, &table[marks_at..length], k) {
+    if bad_marks {
         return refusal::MARKS;
     }
     0
@@ -59,7 +61,7 @@ pub fn find_components(table: &[u8], out: &mut [u8]) -> u8
     if out.len() < table[0] as usize {
         return refusal::ARRAYS;
     }
-    reach::fill_components(table, out);
+    reach::write_components(table, out);
     0
 }
 
@@ -76,7 +78,7 @@ pub fn survey_table(table: &[u8], inside: &mut [u16], counted: &mut [u8]) -> u8
         return refusal::ARRAYS;
     }
     let mut components = [0; MAX_STATES as usize];
-    reach::fill_components(table, &mut components);
+    reach::write_components(table, &mut components);
     survey::write_inside(table, &components, inside);
     survey::write_counted(table, &components, inside, counted);
     0

@@ -13,14 +13,12 @@ ghost use lib.ListN.{length};
 ghost use Rattle.rules.specs.Basics.{bit, tabulate};
 ghost use Rattle.rules.specs.Limits.{maxStates};
 ghost use Rattle.rules.specs.Systems.{System, via, linked, componentOf};
-ghost use Rattle.rules.specs.Tables.{tableOf, tableFault, systemOf};
+ghost use Rattle.rules.specs.Tables.{tableOf};
 ghost use Rattle.rules.specs.Says.{over, components};
 ghost use Rattle.tables.specs.Words.{HoldsOf, Holds};
+ghost use Rattle.tables.specs.Parts.{Taken, statesOf, systemIn};
 
-// The most states, as a number of words.
-const ROWS: usize = MAX_STATES as usize;
-
-// The set with one state more, where the target is a state.
+// The set with the target, where that is a state.
 fn with_target(set: u64, target: u8, n: u8) -> u64
     requires { ⌜ n ≤ maxStates ⌝ }
     ensures { λ r. ⌜ ((q : ℕ) → q < n → bit q r ≡ bit q set || eqb target q) ⌝ }
@@ -34,8 +32,8 @@ fn with_target(set: u64, target: u8, n: u8) -> u64
 
 // The states that a letter leads to from q.
 fn link_row(table: &[u8], q: usize) -> u64
-    requires { ⌜ (tableFault (now table) ≡ 0) × (q < tableOf (now table) .states) ⌝ }
-    ensures { λ r. ⌜ HoldsOf (tableOf (now (table .entry)) .states) (linked (systemOf (tableOf (now (table .entry)))) q) r ⌝ }
+    requires { ⌜ Taken (now table) × (q < statesOf (now table)) ⌝ }
+    ensures { λ r. ⌜ HoldsOf (statesOf (now (table .entry))) (linked (systemIn (now (table .entry))) q) r ⌝ }
 {
     let n = table[0];
     let m = table[1] as usize;
@@ -50,8 +48,8 @@ fn link_row(table: &[u8], q: usize) -> u64
 }
 
 fn link_rows(table: &[u8], rows: &mut [u64])
-    requires { ⌜ (tableFault (now table) ≡ 0) × (tableOf (now table) .states ≤ length (now rows)) ⌝ }
-    ensures { λ _. ⌜ Holds (tableOf (now (table .entry)) .states) (linked (systemOf (tableOf (now (table .entry))))) (now (rows .exit)) ⌝ }
+    requires { ⌜ Taken (now table) × (statesOf (now table) ≤ length (now rows)) ⌝ }
+    ensures { λ _. ⌜ Holds (statesOf (now (table .entry))) (linked (systemIn (now (table .entry)))) (now (rows .exit)) ⌝ }
 {
     let n = table[0] as usize;
     let mut q = 0;
@@ -100,7 +98,7 @@ fn component_of(rows: &[u64], q: usize) -> u8
     q as u8
 }
 
-fn write_components(rows: &[u64], n: usize, out: &mut [u8])
+fn read_components(rows: &[u64], n: usize, out: &mut [u8])
     requires { ⌜ (n ≤ maxStates) × (n ≤ length (now rows)) × (n ≤ length (now out)) ⌝ }
     ensures { λ _. ⌜ ((s : System) → n ≡ s .states → Holds (s .states) (via (linked s) (s .states)) (now (rows .entry)) → now (out .exit) ≡ over (tabulate n 0 (componentOf s)) (now (out .entry))) ⌝ }
 {
@@ -112,13 +110,13 @@ fn write_components(rows: &[u64], n: usize, out: &mut [u8])
 }
 
 // The components of a table that is taken, at the front of an array that has room.
-pub(crate) fn fill_components(table: &[u8], out: &mut [u8])
-    requires { ⌜ (tableFault (now table) ≡ 0) × (tableOf (now table) .states ≤ length (now out)) ⌝ }
+pub(crate) fn write_components(table: &[u8], out: &mut [u8])
+    requires { ⌜ Taken (now table) × (statesOf (now table) ≤ length (now out)) ⌝ }
     ensures { λ _. ⌜ now (out .exit) ≡ over (components (tableOf (now (table .entry)))) (now (out .entry)) ⌝ }
 {
     let n = table[0] as usize;
-    let mut rows = [0; ROWS];
+    let mut rows = [0; MAX_STATES as usize];
     link_rows(table, &mut rows);
     close_rows(&mut rows, n);
-    write_components(&rows, n, out);
+    read_components(&rows, n, out);
 }

@@ -1,18 +1,19 @@
-// What a translation asks of each state again and again, worked out once a table: by which letters the state stays in its
-// component, and which pairs count there.
+// By which letters each state stays in its component, and which pairs count there. Both are read off the numbers of the
+// components; each cell is looked at once for either.
 use rules::limit::HEADER_SIZE;
 use rules::limit::MAX_STATES;
 ghost use mathlib.Core.Path.{_≡_};
-ghost use mathlib.Core.Bool.{Bool, _&&_};
-ghost use Prim.Native.Nat.{ℕ, suc, _+_, _^_, _≤_, _<_};
+ghost use mathlib.Core.Bool.{_&&_};
+ghost use Prim.Native.Nat.{ℕ, _+_, _^_, _≤_, _<_};
 ghost use lib.Dec.{eqb, ltb};
 ghost use lib.ListN.{length, getD};
 ghost use Rattle.rules.specs.Basics.{bit, when, anyBelow, tabulate};
-ghost use Rattle.rules.specs.Systems.{isInside, componentOf};
-ghost use Rattle.rules.specs.Tables.{tableOf, tableFault, systemOf, countsBy};
+ghost use Rattle.rules.specs.Limits.{maxLetters};
+ghost use Rattle.rules.specs.Systems.{componentOf};
+ghost use Rattle.rules.specs.Tables.{tableOf};
 ghost use Rattle.rules.specs.Says.{over};
-ghost use Rattle.tables.specs.Surveys.{insideLetters, countedPairs};
-ghost use Rattle.tables.specs.Gathering.{Numbered, Gathered};
+ghost use Rattle.tables.specs.Surveys.{insideLetters, insideSets, countedSets};
+ghost use Rattle.tables.specs.Parts.{Taken, statesOf, systemIn, makesCount, Listed, Gathered};
 
 // The target is a state, and its component has the number `home`.
 fn is_home(components: &[u8], n: u8, home: u8, target: u8) -> bool
@@ -26,16 +27,17 @@ fn is_home(components: &[u8], n: u8, home: u8, target: u8) -> bool
     }
 }
 
-// The letters, and a where it is taken.
-fn with_letter(letters: u16, a: usize, taken: bool) -> u16
-    requires { ⌜ (a < 16) × (letters < 2 ^ a) ⌝ }
-    ensures { λ r. ⌜ r ≡ when taken (2 ^ a) + letters ⌝ }
+// The letters, with a where it stays inside.
+fn with_letter(letters: u16, a: usize, stays: bool) -> u16
+    requires { ⌜ (a < maxLetters) × (letters < 2 ^ a) ⌝ }
+    ensures { λ r. ⌜ r ≡ when stays (2 ^ a) + letters ⌝ }
 {
-    if taken { (1 << a) + letters } else { letters }
+    if stays { (1 << a) + letters } else { letters }
 }
 
+// The letters by which q stays in its component.
 fn inside_letters(table: &[u8], components: &[u8], q: usize) -> u16
-    requires { ⌜ (tableFault (now table) ≡ 0) × (q < tableOf (now table) .states) × Numbered (systemOf (tableOf (now table))) (now components) ⌝ }
+    requires { ⌜ Taken (now table) × (q < statesOf (now table)) × Listed (statesOf (now table)) (componentOf (systemIn (now table))) (now components) ⌝ }
     ensures { λ r. ⌜ r ≡ insideLetters (tableOf (now (table .entry))) q ⌝ }
 {
     let n = table[0];
@@ -45,16 +47,16 @@ fn inside_letters(table: &[u8], components: &[u8], q: usize) -> u16
     let mut letters = 0;
     let mut a = 0;
     while a < m {
-        let taken = is_home(components, n, home, table[first + a]);
-        letters = with_letter(letters, a, taken);
+        let stays = is_home(components, n, home, table[first + a]);
+        letters = with_letter(letters, a, stays);
         a += 1;
     }
     letters
 }
 
 pub(crate) fn write_inside(table: &[u8], components: &[u8], inside: &mut [u16])
-    requires { ⌜ (tableFault (now table) ≡ 0) × Numbered (systemOf (tableOf (now table))) (now components) × (tableOf (now table) .states ≤ length (now inside)) ⌝ }
-    ensures { λ _. ⌜ now (inside .exit) ≡ over (tabulate (tableOf (now (table .entry)) .states) 0 (insideLetters (tableOf (now (table .entry))))) (now (inside .entry)) ⌝ }
+    requires { ⌜ Taken (now table) × Listed (statesOf (now table)) (componentOf (systemIn (now table))) (now components) × (statesOf (now table) ≤ length (now inside)) ⌝ }
+    ensures { λ _. ⌜ now (inside .exit) ≡ over (insideSets (tableOf (now (table .entry)))) (now (inside .entry)) ⌝ }
 {
     let n = table[0] as usize;
     let mut q = 0;
@@ -64,19 +66,19 @@ pub(crate) fn write_inside(table: &[u8], components: &[u8], inside: &mut [u16])
     }
 }
 
-// The marks where the transition by a stays inside, else none.
+// The marks of the transition by a where it stays inside, else none.
 fn kept(marks: u8, letters: u16, a: usize) -> u8
-    requires { ⌜ a < 16 ⌝ }
+    requires { ⌜ a < maxLetters ⌝ }
     ensures { λ r. ⌜ ((j : ℕ) → bit j r ≡ bit a letters && bit j marks) ⌝ }
     ensures { λ r. ⌜ r ≤ marks ⌝ }
 {
     if (letters >> a) % 2 == 1 { marks } else { 0 }
 }
 
-// The pairs that a transition of q makes count, by one of the letters given.
+// The pairs that some transition of q makes count, by one of the letters given.
 fn met_pairs(table: &[u8], letters: u16, q: usize) -> u8
-    requires { ⌜ (tableFault (now table) ≡ 0) × (q < tableOf (now table) .states) ⌝ }
-    ensures { λ r. ⌜ ((i : ℕ) → bit i r ≡ anyBelow (tableOf (now (table .entry)) .letters) (λ a. bit a letters && countsBy (tableOf (now (table .entry))) (suc i) q a)) ⌝ }
+    requires { ⌜ Taken (now table) × (q < statesOf (now table)) ⌝ }
+    ensures { λ r. ⌜ ((i : ℕ) → bit i r ≡ anyBelow (tableOf (now (table .entry)) .letters) (λ a. bit a letters && makesCount (now (table .entry)) i q a)) ⌝ }
     ensures { λ r. ⌜ r < 2 ^ tableOf (now (table .entry)) .pairs ⌝ }
 {
     let m = table[1] as usize;
@@ -93,10 +95,9 @@ fn met_pairs(table: &[u8], letters: u16, q: usize) -> u8
 
 // For each component, at its number: the pairs that count there.
 fn gather(table: &[u8], components: &[u8], inside: &[u16], sets: &mut [u8])
-    requires { ⌜ (tableFault (now table) ≡ 0) × Numbered (systemOf (tableOf (now table))) (now components) × (tableOf (now table) .states ≤ length (now inside)) × (tableOf (now table) .states ≤ length (now sets)) ⌝ }
-    requires { ⌜ ((q : ℕ) → q < tableOf (now table) .states → getD (now inside) q 0 ≡ insideLetters (tableOf (now table)) q) ⌝ }
-    requires { ⌜ Gathered (systemOf (tableOf (now table))) (λ i. countsBy (tableOf (now table)) (suc i)) (tableOf (now table) .pairs) 0 (now sets) ⌝ }
-    ensures { λ _. ⌜ Gathered (systemOf (tableOf (now (table .entry)))) (λ i. countsBy (tableOf (now (table .entry))) (suc i)) (tableOf (now (table .entry)) .pairs) (tableOf (now (table .entry)) .states) (now (sets .exit)) ⌝ }
+    requires { ⌜ Taken (now table) × Listed (statesOf (now table)) (componentOf (systemIn (now table))) (now components) × Listed (statesOf (now table)) (insideLetters (tableOf (now table))) (now inside) × (statesOf (now table) ≤ length (now sets)) ⌝ }
+    requires { ⌜ Gathered (systemIn (now table)) (makesCount (now table)) (tableOf (now table) .pairs) 0 (now sets) ⌝ }
+    ensures { λ _. ⌜ Gathered (systemIn (now (table .entry))) (makesCount (now (table .entry))) (tableOf (now (table .entry)) .pairs) (statesOf (now (table .entry))) (now (sets .exit)) ⌝ }
 {
     let n = table[0] as usize;
     let mut q = 0;
@@ -120,9 +121,8 @@ fn spread(components: &[u8], sets: &[u8], n: usize, out: &mut [u8])
 }
 
 pub(crate) fn write_counted(table: &[u8], components: &[u8], inside: &[u16], out: &mut [u8])
-    requires { ⌜ (tableFault (now table) ≡ 0) × Numbered (systemOf (tableOf (now table))) (now components) × (tableOf (now table) .states ≤ length (now inside)) × (tableOf (now table) .states ≤ length (now out)) ⌝ }
-    requires { ⌜ ((q : ℕ) → q < tableOf (now table) .states → getD (now inside) q 0 ≡ insideLetters (tableOf (now table)) q) ⌝ }
-    ensures { λ _. ⌜ now (out .exit) ≡ over (tabulate (tableOf (now (table .entry)) .states) 0 (countedPairs (tableOf (now (table .entry))))) (now (out .entry)) ⌝ }
+    requires { ⌜ Taken (now table) × Listed (statesOf (now table)) (componentOf (systemIn (now table))) (now components) × Listed (statesOf (now table)) (insideLetters (tableOf (now table))) (now inside) × (statesOf (now table) ≤ length (now out)) ⌝ }
+    ensures { λ _. ⌜ now (out .exit) ≡ over (countedSets (tableOf (now (table .entry)))) (now (out .entry)) ⌝ }
 {
     let mut sets = [0; MAX_STATES as usize];
     gather(table, components, inside, &mut sets);

@@ -5,6 +5,7 @@ ghost use Prim.Native.Nat.{ℕ, _<_};
 ghost use lib.Dec.{eqb};
 ghost use Rattle.rules.specs.Basics.{bit};
 
+// The set has q.
 pub(crate) fn has(set: u64, q: usize) -> bool
     requires { ⌜ q < 64 ⌝ }
     ensures { λ r. ⌜ r ≡ bit q set ⌝ }

@@ -3,14 +3,10 @@ use mathlib.Core.Path.{_≡_, sym, _∙_}
 use native.Mathlib.Omega.{arith}
 use borrow.Author.Needs.{needs}
 use Rattle.rules.specs.Tables.{tableFault}
-use Rattle.tables.proofs.Cells.{Sized, sized}
+use Rattle.tables.proofs.Cells.{sized}
 use Rattle.tables.proofs.Promises.{components-refused, components-short, components-found}
 use Rattle.tables.proofs.find_components.Statement.{statement}
 use Rattle.tables.proofs.find_components.Tie as tie
-use Rattle.tables.proofs.find_components.Reads as reads
-use Rattle.tables.proofs.find_components.Lts as lts
-use Rattle.tables.proofs.check_table.Reads as check-table-reads
-use Rattle.tables.proofs.reach.fill_components.Reads as fill-components-reads
 
 check-table-requires : tie.Need-check-table-requires
 check-table-requires c κs = search needs
@@ -30,14 +26,14 @@ cast-if2 c = omega (arith, sized _ (taken (c .before)))
 returns-2 : tie.Need-returns-2
 returns-2 c = components-short _ (taken (c .before .before)) _ (c .if2 .taken)
 
-fill-components-requires : tie.Need-fill-components-requires
-fill-components-requires c κs = search needs
+write-components-requires : tie.Need-write-components-requires
+write-components-requires c κs = search needs
 
 same-length : tie.Need-same-length
 same-length c = search needs
 
 returns-3 : tie.Need-returns-3
-returns-3 c = let e = c .before .before .before .before in components-found _ (taken (e .before .before)) _ _ (e .if2 .left) (c .before .before .fill-components .ensures)
+returns-3 c = let e = c .before .before .before .before in components-found _ (taken (e .before .before)) _ _ (e .if2 .left) (c .before .before .write-components .ensures)
 
 pub find-components-spec : {M : Type 1} → statement M
 find-components-spec =
@@ -48,6 +44,6 @@ find-components-spec =
     shared-slice-read-if2
     cast-if2
     returns-2
-    fill-components-requires
+    write-components-requires
     same-length
     returns-3)

@@ -1,17 +1,15 @@
 -- `tables::check::marks_fault` meets its contract. The invariant is that of `target_fault`, over targets and marks together.
 use mathlib.Core.Path.{_≡_, refl, _∙_}
 use mathlib.Core.Bool.{_||_}
-use Prim.Native.Nat.{_-_, _*_, _^_, _≤_, _<_}
+use Prim.Native.Nat.{_-_, _*_, _≤_, _<_}
 use native.Mathlib.Omega.{arith}
 use borrow.Author.Needs.{needs}
 use lib.ListN.{length, drop}
 use Rattle.rules.specs.Tables.{marksFault}
 use Rattle.tables.proofs.Checks.{marks-turn, marks-end}
-use Rattle.tables.proofs.Bits.{one-shifted}
+use Rattle.rules.proofs.Bits.{one-shifted}
 use Rattle.tables.proofs.check.marks_fault.Statement.{statement}
 use Rattle.tables.proofs.check.marks_fault.Tie as tie
-use Rattle.tables.proofs.check.marks_fault.Reads as reads
-use Rattle.tables.proofs.check.marks_fault.Lts as lts
 
 abbrev Inv-loop : tie.InvT-loop
 Inv-loop targets marks k limit bad₀ c₀ bad c = (c ≤ length targets) × (bad || marksFault k (drop c targets) (drop (2 * c) marks) ≡ marksFault k targets marks)
@@ -50,7 +48,8 @@ loop-less : tie.Need-loop-less Inv-loop μ-loop
 loop-less c = omega arith
 
 loop-again : tie.Need-loop-again Inv-loop μ-loop
-loop-again c = let s = c .before .before .before .before .before in
+loop-again c =
+    let s = c .before .before .before .before .before in
     let i = c .before .before .before .before .loop in
     let l : i .c < length (s .args .targets .now) = omega arith in
     (omega arith, rw (one-shifted 8 (s .args .k) (omega arith)) (marks-turn (s .args .k) (i .bad) (s .args .targets .now) (s .args .marks .now) (i .c) l) ∙ i .inv .1)

@@ -1,8 +1,6 @@
 use Rattle.tables.proofs.Checks.{sizes-fault}
 use Rattle.tables.proofs.check.sizes_fault.Statement.{statement}
 use Rattle.tables.proofs.check.sizes_fault.Tie as tie
-use Rattle.tables.proofs.check.sizes_fault.Reads as reads
-use Rattle.tables.proofs.check.sizes_fault.Lts as lts
 
 -- src/check.rt:12:1
 returns : tie.Need-returns

@@ -10,8 +10,6 @@ use Rattle.rules.specs.Tables.{targetFault}
 use Rattle.tables.proofs.Checks.{target-turn, target-end}
 use Rattle.tables.proofs.check.target_fault.Statement.{statement}
 use Rattle.tables.proofs.check.target_fault.Tie as tie
-use Rattle.tables.proofs.check.target_fault.Reads as reads
-use Rattle.tables.proofs.check.target_fault.Lts as lts
 
 abbrev Inv-loop : tie.InvT-loop
 Inv-loop targets n bad₀ c₀ bad c = (c ≤ length targets) × (bad || targetFault n noState (drop c targets) ≡ targetFault n noState targets)

@@ -10,9 +10,6 @@ use Rattle.rules.specs.Systems.{via}
 use Rattle.tables.specs.Words.{Holds}
 use Rattle.tables.proofs.reach.close_rows.Statement.{statement}
 use Rattle.tables.proofs.reach.close_rows.Tie as tie
-use Rattle.tables.proofs.reach.close_rows.Reads as reads
-use Rattle.tables.proofs.reach.close_rows.Lts as lts
-use Rattle.tables.proofs.reach.close_stage.Reads as close-stage-reads
 
 abbrev Inv-loop : tie.InvT-loop
 Inv-loop rows₀ n k₀ rows k = (k ≤ n) × (length rows ≡ length rows₀) × ((e : ℕ → ℕ → Bool) → Holds n e rows₀ → Holds n (via e k) rows)
@@ -33,7 +30,8 @@ loop-less : tie.Need-loop-less Inv-loop μ-loop
 loop-less c = omega arith
 
 loop-again : tie.Need-loop-again Inv-loop μ-loop
-loop-again c = let s = c .before .before .close-stage in
+loop-again c =
+    let s = c .before .before .close-stage in
     let i = c .before .before .before .before .before .loop in
     (omega arith, s .kept .0 ∙ i .inv .1, λ e h. s .ensures e (i .inv .2 e h))
 

@@ -1,19 +1,16 @@
 -- `tables::reach::close_stage` meets its contract. The invariant: the rows below p are joined, the others as they were.
-use mathlib.Core.Path.{_≡_, sym, ap, _∙_}
+use mathlib.Core.Path.{ap, _∙_}
 use mathlib.Core.Bool.{_&&_, _||_}
 use Prim.Native.Nat.{ℕ, _-_, _≤_}
 use native.Mathlib.Nat.{le-antisymm}
 use native.Mathlib.Omega.{arith}
 use borrow.Author.Needs.{needs}
-use lib.ListN.{length, getD}
+use lib.ListN.{getD}
 use Rattle.rules.specs.Basics.{bit}
-use Rattle.tables.proofs.Filling.{Filled, filled-none, filled-more}
+use Rattle.rules.proofs.Filling.{Filled, filled-none, filled-more}
 use Rattle.tables.proofs.Closure.{Joined, stage-done}
 use Rattle.tables.proofs.reach.close_stage.Statement.{statement}
 use Rattle.tables.proofs.reach.close_stage.Tie as tie
-use Rattle.tables.proofs.reach.close_stage.Reads as reads
-use Rattle.tables.proofs.reach.close_stage.Lts as lts
-use Rattle.tables.proofs.words.with_all.Reads as with-all-reads
 
 abbrev Inv-loop : tie.InvT-loop
 Inv-loop rows₀ n k through p₀ rows p = (p ≤ n) × Filled (λ i v. Joined k through (getD rows₀ i 0) v) rows₀ rows p
@@ -52,7 +49,8 @@ loop-less : tie.Need-loop-less Inv-loop μ-loop
 loop-less c = omega arith
 
 loop-again : tie.Need-loop-again Inv-loop μ-loop
-loop-again c = let s = c .before .before .before .before .before .before in
+loop-again c =
+    let s = c .before .before .before .before .before .before in
     let i = c .before .before .before .loop in
     let joined : Joined (s .args .k) (getD (s .args .rows .now) (s .args .k) 0) (getD (s .args .rows .now) (i .p) 0) (c .with-all .result) =
     λ q. c .with-all .ensures q ∙ ap (λ (x : ℕ). bit q x || (bit (s .args .k) x && bit q (getD (s .args .rows .now) (s .args .k) 0))) (i .inv .1 .rest (i .p) (omega arith)) in

@@ -1,27 +1,24 @@
 -- `tables::reach::component_of` meets its contract. The invariant: no state below p shares the component of q.
 use mathlib.Core.Path.{_≡_, sym, ap₂, _∙_}
-use mathlib.Core.Bool.{Bool, true, false, _&&_}
+use mathlib.Core.Bool.{Bool, false, _&&_}
 use Prim.Native.Nat.{ℕ, _-_, _≤_, _<_}
 use native.Mathlib.Nat.{le-antisymm}
 use native.Mathlib.Omega.{arith}
 use borrow.Author.Needs.{needs}
 use borrow.Author.Count.{below-none, below-more}
-use lib.ListN.{length, getD}
-use Rattle.tables.proofs.Closure.{bothWays, first-met, first-self}
+use Rattle.rules.proofs.Reach.{component-met, component-self}
+use Rattle.tables.specs.Words.{has}
 use Rattle.tables.proofs.reach.component_of.Statement.{statement}
 use Rattle.tables.proofs.reach.component_of.Tie as tie
-use Rattle.tables.proofs.reach.component_of.Reads as reads
-use Rattle.tables.proofs.reach.component_of.Lts as lts
-use Rattle.tables.proofs.words.has.Reads as has-reads
 
 abbrev Inv-loop : tie.InvT-loop
-Inv-loop rows q p₀ p = (p ≤ q) × ((i : ℕ) → i < p → bothWays rows q i ≡ false)
+Inv-loop rows q p₀ p = (p ≤ q) × ((i : ℕ) → i < p → has rows q i && has rows i q ≡ false)
 
 abbrev μ-loop : tie.MeasureT-loop
 μ-loop rows q p₀ p = q - p
 
 tested : (c : tie.After-has2 Inv-loop μ-loop)
-    → bothWays (c .before .before .before .before .before .before .before .args .rows .now) (c .before .before .before .before .before .before .before .args .q) (c .before .before .before .before .before .loop .p)
+    → has (c .before .before .before .before .before .before .before .args .rows .now) (c .before .before .before .before .before .before .before .args .q) (c .before .before .before .before .before .loop .p) && has (c .before .before .before .before .before .before .before .args .rows .now) (c .before .before .before .before .before .loop .p) (c .before .before .before .before .before .before .before .args .q)
     ≡ c .before .before .has .result && c .has2 .result
 tested c = ap₂ (λ (x y : Bool). x && y) (sym (c .before .before .has .ensures)) (sym (c .has2 .ensures))
 
@@ -50,7 +47,7 @@ cast-result : tie.Need-cast-result Inv-loop μ-loop
 cast-result c = omega arith
 
 returns : tie.Need-returns Inv-loop μ-loop
-returns c = λ s l h. first-met s (c .before .before .before .before .before .before .before .before .args .rows .now) h _ l _ (c .before .before .before .before .before .loop-test .taken) (tested (c .before) ∙ c .if1 .taken) (c .before .before .before .before .before .before .loop .inv .1)
+returns c = λ s l h. component-met s (has (c .before .before .before .before .before .before .before .before .args .rows .now)) h _ l _ (c .before .before .before .before .before .loop-test .taken) (tested (c .before) ∙ c .if1 .taken) (c .before .before .before .before .before .before .loop .inv .1)
 
 add-p : tie.Need-add-p Inv-loop μ-loop
 add-p c = omega arith
@@ -65,7 +62,7 @@ cast-result-2 : tie.Need-cast-result-2 Inv-loop μ-loop
 cast-result-2 c = omega arith
 
 returns-2 : tie.Need-returns-2 Inv-loop μ-loop
-returns-2 c = λ s l h. first-self s (c .before .before .before .args .rows .now) h _ l (rw (le-antisymm (c .before .loop .inv .0) (c .loop-test .left)) at (c .before .loop .inv .1))
+returns-2 c = λ s l h. component-self s (has (c .before .before .before .args .rows .now)) h _ l (rw (le-antisymm (c .before .loop .inv .0) (c .loop-test .left)) at (c .before .loop .inv .1))
 
 pub component-of-spec : {M : Type 1} → statement M
 component-of-spec =

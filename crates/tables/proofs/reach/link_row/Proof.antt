@@ -1,18 +1,14 @@
 -- `tables::reach::link_row` meets its contract. The invariant: the set holds what the letters below a lead to.
-use mathlib.Core.Path.{_∙_}
-use Prim.Native.Nat.{_-_, _<_, _≤_, _*_}
+use Prim.Native.Nat.{_-_, _≤_, _*_}
 use native.Mathlib.Nat.{le-antisymm}
 use native.Mathlib.Omega.{arith}
 use borrow.Author.Needs.{needs}
 use Rattle.rules.specs.Tables.{tableOf, systemOf}
-use Rattle.tables.proofs.Bits.{bit-none}
+use Rattle.rules.proofs.Bits.{bit-none}
 use Rattle.tables.proofs.Cells.{Sized, sized, row-within, cell-byte, target-byte}
 use Rattle.tables.proofs.Closure.{LinksBelow, links-more, links-all}
 use Rattle.tables.proofs.reach.link_row.Statement.{statement}
 use Rattle.tables.proofs.reach.link_row.Tie as tie
-use Rattle.tables.proofs.reach.link_row.Reads as reads
-use Rattle.tables.proofs.reach.link_row.Lts as lts
-use Rattle.tables.proofs.reach.with_target.Reads as with-target-reads
 
 abbrev Inv-loop : tie.InvT-loop
 Inv-loop table q n m first set₀ a₀ set a = (a ≤ tableOf table .letters) × LinksBelow (systemOf (tableOf table)) q a set
@@ -60,12 +56,14 @@ loop-less : tie.Need-loop-less Inv-loop μ-loop
 loop-less c = omega arith
 
 loop-again : tie.Need-loop-again Inv-loop μ-loop
-loop-again c = let s = c .before .before .before .before .before .before .before in
+loop-again c =
+    let s = c .before .before .before .before .before .before .before in
     let l = c .before .before .loop-test .taken in
     (omega arith, links-more (systemOf (tableOf (s .args .table .now))) (s .args .q) (c .before .before .before .loop .a) (c .before .before .before .loop .set) (c .with-target .result) (c .before .before .before .loop .inv .1) (λ p b. rw (target-byte _ (s .pre .0) (s .args .q) (c .before .before .before .loop .a) (s .pre .1) l) (c .with-target .ensures p b)))
 
 returns : tie.Need-returns Inv-loop μ-loop
-returns c = let i = c .before .loop in
+returns c =
+    let i = c .before .loop in
     links-all (systemOf (tableOf (c .before .before .before .before .before .args .table .now))) (c .before .before .before .before .before .args .q) (i .a) (i .set) (le-antisymm (i .inv .0) (c .loop-test .left)) (i .inv .1)
 
 pub link-row-spec : {M : Type 1} → statement M

@@ -1,20 +1,14 @@
 -- `tables::reach::link_rows` meets its contract. The invariant: the rows below q hold what their letters lead to.
-use mathlib.Core.Path.{sym}
-use Prim.Native.Nat.{_-_, _<_, _≤_}
-use native.Mathlib.Nat.{le-antisymm}
+use Prim.Native.Nat.{_-_, _≤_}
 use native.Mathlib.Omega.{arith}
 use borrow.Author.Needs.{needs}
-use lib.ListN.{length}
 use Rattle.rules.specs.Systems.{linked}
 use Rattle.rules.specs.Tables.{tableOf, systemOf}
 use Rattle.tables.specs.Words.{HoldsOf}
 use Rattle.tables.proofs.Cells.{Sized, sized}
-use Rattle.tables.proofs.Filling.{Filled, filled-none, filled-more}
+use Rattle.rules.proofs.Filling.{Filled, filled-none, filled-more}
 use Rattle.tables.proofs.reach.link_rows.Statement.{statement}
 use Rattle.tables.proofs.reach.link_rows.Tie as tie
-use Rattle.tables.proofs.reach.link_rows.Reads as reads
-use Rattle.tables.proofs.reach.link_rows.Lts as lts
-use Rattle.tables.proofs.reach.link_row.Reads as link-row-reads
 
 abbrev Inv-loop : tie.InvT-loop
 Inv-loop table rows₀ n q₀ rows q = (q ≤ n) × Filled (λ i v. HoldsOf (tableOf table .states) (linked (systemOf (tableOf table)) i) v) rows₀ rows q
@@ -50,7 +44,8 @@ loop-less : tie.Need-loop-less Inv-loop μ-loop
 loop-less c = omega arith
 
 loop-again : tie.Need-loop-again Inv-loop μ-loop
-loop-again c = let s = c .before .before .before .before .before .before in
+loop-again c =
+    let s = c .before .before .before .before .before .before in
     (omega arith, filled-more _ _ _ (c .before .before .loop .q) (c .link-row .result) (omega (arith, s .pre .1)) (c .link-row .ensures) (c .before .before .loop .inv .1))
 
 same-length : tie.Need-same-length Inv-loop μ-loop

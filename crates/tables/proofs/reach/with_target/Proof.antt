@@ -1,14 +1,11 @@
 -- `tables::reach::with_target` meets its contract.
-use mathlib.Core.Path.{sym, _∙_}
+use mathlib.Core.Path.{sym}
 use mathlib.Core.Bool.{or-false}
 use native.Mathlib.Omega.{arith}
 use borrow.Author.Needs.{needs}
 use borrow.Author.Tests.{ne-eqb}
 use Rattle.tables.proofs.reach.with_target.Statement.{statement}
 use Rattle.tables.proofs.reach.with_target.Tie as tie
-use Rattle.tables.proofs.reach.with_target.Reads as reads
-use Rattle.tables.proofs.reach.with_target.Lts as lts
-use Rattle.tables.proofs.words.with.Reads as with-reads
 
 with-requires : tie.Need-with-requires
 with-requires c κs = search needs

@@ -1,61 +1,62 @@
--- `tables::reach::write_components` meets its contract. The invariant: below q each state's component is written.
-use mathlib.Core.Path.{_≡_, _∙_}
-use Prim.Native.Nat.{_-_, _≤_}
-use native.Mathlib.Nat.{le-antisymm}
+-- `tables::reach::write_components` meets its contract: the rows hold the links, then all chains, and the components are read off them.
+use mathlib.Core.Path.{refl}
 use native.Mathlib.Omega.{arith}
 use borrow.Author.Needs.{needs}
-use lib.ListN.{length, length-set}
-use Rattle.rules.specs.Systems.{System, via, linked, componentOf}
-use Rattle.tables.specs.Words.{Holds}
-use Rattle.tables.proofs.Filling.{Filled, filled-none, filled-more, filled-over}
+use Rattle.rules.specs.Systems.{linked}
+use Rattle.rules.specs.Tables.{tableOf, systemOf}
+use Rattle.tables.proofs.Cells.{Sized, sized}
 use Rattle.tables.proofs.reach.write_components.Statement.{statement}
 use Rattle.tables.proofs.reach.write_components.Tie as tie
-use Rattle.tables.proofs.reach.write_components.Reads as reads
-use Rattle.tables.proofs.reach.write_components.Lts as lts
-use Rattle.tables.proofs.reach.component_of.Reads as component-of-reads
 
-abbrev Inv-loop : tie.InvT-loop
-Inv-loop rows n out₀ q₀ out q = (q ≤ n) × (length out ≡ length out₀) × ((s : System) → n ≡ s .states → Holds (s .states) (via (linked s) (s .states)) rows → Filled (λ i v. v ≡ componentOf s i) out₀ out q)
+known : (c : tie.Start) → Sized (c .args .table .now)
+known c = sized _ (c .pre .0)
 
-abbrev μ-loop : tie.MeasureT-loop
-μ-loop rows n out₀ q₀ out q = n - q
+shared-slice-read-n : tie.Need-shared-slice-read-n
+shared-slice-read-n c = omega (arith, known (c .before .before .before))
 
-loop-holds : tie.Need-loop-holds Inv-loop μ-loop
-loop-holds c = (search needs, search needs, λ s e h. filled-none _ _)
+cast-n : tie.Need-cast-n
+cast-n c = search needs
 
-component-of-requires : tie.Need-component-of-requires Inv-loop μ-loop
-component-of-requires c κs = omega arith
+slice-aggregate-link-rows : tie.Need-slice-aggregate-link-rows
+slice-aggregate-link-rows c = search needs
 
-slice-write-out : tie.Need-slice-write-out Inv-loop μ-loop
-slice-write-out c = omega arith
+link-rows-requires : tie.Need-link-rows-requires
+link-rows-requires c κs = (c .before .before .before .before .pre .0, known (c .before .before .before .before) .states)
 
-add-q : tie.Need-add-q Inv-loop μ-loop
-add-q c = omega arith
+slice-aggregate-close-rows : tie.Need-slice-aggregate-close-rows
+slice-aggregate-close-rows c = search needs
 
-loop-less : tie.Need-loop-less Inv-loop μ-loop
-loop-less c = omega arith
+close-rows-requires : tie.Need-close-rows-requires
+close-rows-requires c κs = omega (arith, known (c .before .before .before .before .before .before .before), c .before .before .link-rows .kept .1 .0)
 
-loop-again : tie.Need-loop-again Inv-loop μ-loop
-loop-again c = let i = c .before .before .loop in
-    (omega arith, simp length-set (i .inv .1), λ s e h. filled-more _ _ _ (i .q) (c .component-of .result) (omega arith) (c .component-of .ensures s (omega arith) h) (i .inv .2 s e h))
+slice-aggregate-read-components : tie.Need-slice-aggregate-read-components
+slice-aggregate-read-components c = search needs
 
-same-length : tie.Need-same-length Inv-loop μ-loop
-same-length c = c .before .loop .inv .1
+read-components-requires : tie.Need-read-components-requires
+read-components-requires c κs =
+    let s = c .before .before .before .before .before .before .before .before .before .before .before in
+    omega (arith, known s, c .before .before .before .close-rows .kept .0, c .before .before .before .before .before .before .link-rows .kept .1 .0, s .pre .1)
 
-returns : tie.Need-returns Inv-loop μ-loop
-returns c = λ s e h. filled-over _ _ _ _ (omega arith) (rw (le-antisymm (c .before .loop .inv .0) (c .loop-test .left)) at (c .before .loop .inv .2 s e h))
+same-length : tie.Need-same-length
+same-length c = search needs
+
+returns : tie.Need-returns
+returns c =
+    let s = c .before .before .before .before .before .before .before .before .before .before .before .before .before .before in
+    let t = systemOf (tableOf (s .args .table .now)) in
+    c .before .before .read-components .ensures t refl (c .before .before .before .before .before .before .close-rows .ensures (linked t) (c .before .before .before .before .before .before .before .before .before .link-rows .ensures))
 
 pub write-components-spec : {M : Type 1} → statement M
 write-components-spec =
     tie.close
     (tie.spec
-    Inv-loop
-    μ-loop
-    loop-holds
-    component-of-requires
-    slice-write-out
-    add-q
-    loop-less
-    loop-again
+    shared-slice-read-n
+    cast-n
+    slice-aggregate-link-rows
+    link-rows-requires
+    slice-aggregate-close-rows
+    close-rows-requires
+    slice-aggregate-read-components
+    read-components-requires
     same-length
     returns)

@@ -1,22 +1,19 @@
 -- `tables::survey::gather` meets its contract. The invariant: what the states below q make count is gathered.
 use mathlib.Core.Path.{_≡_}
-use Prim.Native.Nat.{ℕ, suc, _-_, _≤_, _<_}
+use Prim.Native.Nat.{_-_, _≤_, _<_}
 use native.Mathlib.Nat.{le-antisymm}
 use native.Mathlib.Omega.{arith}
 use borrow.Author.Needs.{needs}
 use lib.ListN.{length, getD, length-set}
-use Rattle.rules.specs.Tables.{tableOf, systemOf, countsBy}
-use Rattle.tables.specs.Gathering.{Gathered}
+use Rattle.rules.specs.Tables.{tableOf}
+use Rattle.tables.specs.Parts.{statesOf, systemIn, makesCount, Gathered}
 use Rattle.tables.proofs.Cells.{Sized, sized}
 use Rattle.tables.proofs.Surveying.{component-below, gathered-more}
 use Rattle.tables.proofs.survey.gather.Statement.{statement}
 use Rattle.tables.proofs.survey.gather.Tie as tie
-use Rattle.tables.proofs.survey.gather.Reads as reads
-use Rattle.tables.proofs.survey.gather.Lts as lts
-use Rattle.tables.proofs.survey.met_pairs.Reads as met-pairs-reads
 
 abbrev Inv-loop : tie.InvT-loop
-Inv-loop table components inside sets₀ n q₀ sets q = (q ≤ n) × (length sets ≡ length sets₀) × Gathered (systemOf (tableOf table)) (λ i. countsBy (tableOf table) (suc i)) (tableOf table .pairs) q sets
+Inv-loop table components inside sets₀ n q₀ sets q = (q ≤ n) × (length sets ≡ length sets₀) × Gathered (systemIn table) (makesCount table) (tableOf table .pairs) q sets
 
 abbrev μ-loop : tie.MeasureT-loop
 μ-loop table components inside sets₀ n q₀ sets q = n - q
@@ -24,11 +21,12 @@ abbrev μ-loop : tie.MeasureT-loop
 known : (c : tie.Start Inv-loop μ-loop) → Sized (c .args .table .now)
 known c = sized _ (c .pre .0 .0)
 
-home-below : (c : tie.At-loop Inv-loop μ-loop) → c .loop .q < tableOf (c .before .before .before .before .before .before .args .table .now) .states
-    → getD (c .before .before .before .before .before .before .args .components .now) (c .loop .q) 0 < tableOf (c .before .before .before .before .before .before .args .table .now) .states
+home-below : (c : tie.At-loop Inv-loop μ-loop)
+    → let s = c .before .before .before .before .before .before in
+    c .loop .q < statesOf (s .args .table .now) → getD (s .args .components .now) (c .loop .q) 0 < statesOf (s .args .table .now)
 home-below c l =
     let s = c .before .before .before .before .before .before in
-    rw (s .pre .0 .1 .number (c .loop .q) l) (component-below (systemOf (tableOf (s .args .table .now))) (c .loop .q) l)
+    rw (s .pre .0 .1 .entry (c .loop .q) l) (component-below (systemIn (s .args .table .now)) (c .loop .q) l)
 
 shared-slice-read-n : tie.Need-shared-slice-read-n Inv-loop μ-loop
 shared-slice-read-n c = omega (arith, known (c .before .before .before .before .before))
@@ -37,7 +35,7 @@ cast-n : tie.Need-cast-n Inv-loop μ-loop
 cast-n c = omega (arith, known (c .before .before .before .before .before))
 
 loop-holds : tie.Need-loop-holds Inv-loop μ-loop
-loop-holds c = (search needs, search needs, c .before .before .before .before .before .pre .1 .1)
+loop-holds c = (search needs, search needs, c .before .before .before .before .before .pre .1)
 
 shared-slice-read-home : tie.Need-shared-slice-read-home Inv-loop μ-loop
 shared-slice-read-home c = omega (arith, (c .before .before .before .before .before .before .before .before) .pre .0 .1 .enough)
@@ -52,7 +50,7 @@ mul-met-pairs : tie.Need-mul-met-pairs Inv-loop μ-loop
 mul-met-pairs c = omega (arith, known (c .before .before .before .before .before .before .before .before .before))
 
 shared-slice-read-met-pairs : tie.Need-shared-slice-read-met-pairs Inv-loop μ-loop
-shared-slice-read-met-pairs c = omega (arith, (c .before .before .before .before .before .before .before .before .before .before) .pre .0 .2)
+shared-slice-read-met-pairs c = omega (arith, (c .before .before .before .before .before .before .before .before .before .before) .pre .0 .2 .enough)
 
 met-pairs-requires : tie.Need-met-pairs-requires Inv-loop μ-loop
 met-pairs-requires c κs = ((c .before .before .before .before .before .before .before .before .before .before) .pre .0 .0, c .before .before .before .loop-test .taken)
@@ -67,11 +65,12 @@ loop-less : tie.Need-loop-less Inv-loop μ-loop
 loop-less c = omega arith
 
 loop-again : tie.Need-loop-again Inv-loop μ-loop
-loop-again c = let s = c .before .before .before .before .before .before .before .before .before .before .before in
-    let t = tableOf (s .args .table .now) in
+loop-again c =
+    let s = c .before .before .before .before .before .before .before .before .before .before .before in
+    let bs = s .args .table .now in
     let i = c .before .before .before .before .before .loop in
     let l = c .before .before .before .before .loop-test .taken in
-    (omega arith, simp length-set (i .inv .1), gathered-more (systemOf t) (λ x. countsBy t (suc x)) (t .pairs) (s .args .components .now) (i .sets) (i .q) (getD (s .args .inside .now) (i .q) 0) (c .met-pairs .result) (s .pre .0 .1) l (omega (arith, s .pre .0 .3)) (s .pre .1 .0 (i .q) l) (c .met-pairs .ensures .0) (c .met-pairs .ensures .1) (i .inv .2))
+    (omega arith, simp length-set (i .inv .1), gathered-more (systemIn bs) (makesCount bs) (tableOf bs .pairs) (s .args .components .now) (i .sets) (i .q) (getD (s .args .inside .now) (i .q) 0) (c .met-pairs .result) (s .pre .0 .1) l (omega (arith, s .pre .0 .3)) (s .pre .0 .2 .entry (i .q) l) (c .met-pairs .ensures .0) (c .met-pairs .ensures .1) (i .inv .2))
 
 same-length : tie.Need-same-length Inv-loop μ-loop
 same-length c = c .before .loop .inv .1

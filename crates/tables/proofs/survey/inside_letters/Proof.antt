@@ -5,20 +5,17 @@ use native.Mathlib.Nat.{le-antisymm}
 use native.Mathlib.Omega.{arith}
 use borrow.Author.Needs.{needs}
 use Rattle.rules.specs.Systems.{isInside}
-use Rattle.rules.specs.Tables.{tableOf, systemOf}
-use Rattle.tables.specs.Words.{asBits}
-use Rattle.tables.proofs.Bits.{as-bits-below, as-bits-more}
-use Rattle.tables.proofs.Cells.{Sized, sized, row-within, cell-byte, target-byte}
-use Rattle.tables.proofs.Surveying.{home-inside}
+use Rattle.rules.specs.Tables.{tableOf}
+use Rattle.tables.specs.Parts.{systemIn}
+use Rattle.rules.specs.Basics.{asBits}
+use Rattle.rules.proofs.Bits.{as-bits-below, as-bits-more}
+use Rattle.tables.proofs.Cells.{Sized, sized, row-within, cell-byte}
+use Rattle.tables.proofs.Surveying.{target-inside}
 use Rattle.tables.proofs.survey.inside_letters.Statement.{statement}
 use Rattle.tables.proofs.survey.inside_letters.Tie as tie
-use Rattle.tables.proofs.survey.inside_letters.Reads as reads
-use Rattle.tables.proofs.survey.inside_letters.Lts as lts
-use Rattle.tables.proofs.survey.is_home.Reads as is-home-reads
-use Rattle.tables.proofs.survey.with_letter.Reads as with-letter-reads
 
 abbrev Inv-loop : tie.InvT-loop
-Inv-loop table components q n m first home letters₀ a₀ letters a = (a ≤ tableOf table .letters) × (letters ≡ asBits a (isInside (systemOf (tableOf table)) q))
+Inv-loop table components q n m first home letters₀ a₀ letters a = (a ≤ tableOf table .letters) × (letters ≡ asBits a (isInside (systemIn table) q))
 
 abbrev μ-loop : tie.MeasureT-loop
 μ-loop table components q n m first home letters₀ a₀ letters a = m - a
@@ -69,15 +66,16 @@ loop-less : tie.Need-loop-less Inv-loop μ-loop
 loop-less c = omega arith
 
 loop-again : tie.Need-loop-again Inv-loop μ-loop
-loop-again c = let s = c .before .before .before .before .before .before .before .before .before .before in
-    let t = systemOf (tableOf (s .args .table .now)) in
+loop-again c =
+    let s = c .before .before .before .before .before .before .before .before .before .before in
     let i = c .before .before .before .before .loop in
-    let home = rw (target-byte _ (s .pre .0) (s .args .q) (i .a) (s .pre .1) (c .before .before .before .loop-test .taken)) at (home-inside t (s .args .components .now) (s .pre .2) (s .args .q) (i .a) (s .pre .1)) in
-    (omega arith, as-bits-more (isInside t (s .args .q)) (i .a) (i .letters) (c .with-letter .result) (c .before .is-home .result) (i .inv .1) (c .before .is-home .ensures ∙ home) (c .with-letter .ensures))
+    let stays = target-inside (s .args .table .now) (s .args .components .now) (s .pre .0) (s .pre .2) (s .args .q) (i .a) (s .pre .1) (c .before .before .before .loop-test .taken) (c .before .is-home .result) (c .before .is-home .ensures) in
+    (omega arith, as-bits-more (isInside (systemIn (s .args .table .now)) (s .args .q)) (i .a) (i .letters) (c .with-letter .result) (c .before .is-home .result) (i .inv .1) stays (c .with-letter .ensures))
 
 returns : tie.Need-returns Inv-loop μ-loop
-returns c = let s = c .before .before .before .before .before .before .before in
-    c .before .loop .inv .1 ∙ ap (λ (x : ℕ). asBits x (isInside (systemOf (tableOf (s .args .table .now))) (s .args .q))) (le-antisymm (c .before .loop .inv .0) (c .loop-test .left))
+returns c =
+    let s = c .before .before .before .before .before .before .before in
+    c .before .loop .inv .1 ∙ ap (λ (x : ℕ). asBits x (isInside (systemIn (s .args .table .now)) (s .args .q))) (le-antisymm (c .before .loop .inv .0) (c .loop-test .left))
 
 pub inside-letters-spec : {M : Type 1} → statement M
 inside-letters-spec =

@@ -3,8 +3,6 @@ use borrow.Author.Needs.{needs}
 use borrow.Author.Tests.{lt-ltb, le-ltb}
 use Rattle.tables.proofs.survey.is_home.Statement.{statement}
 use Rattle.tables.proofs.survey.is_home.Tie as tie
-use Rattle.tables.proofs.survey.is_home.Reads as reads
-use Rattle.tables.proofs.survey.is_home.Lts as lts
 
 shared-slice-read-result : tie.Need-shared-slice-read-result
 shared-slice-read-result c = search needs

@@ -1,14 +1,10 @@
 -- `tables::survey::kept` meets its contract.
-use mathlib.Core.Path.{sym, _∙_}
-use native.Mathlib.Nat.{le-refl}
-use native.Mathlib.Omega.{arith}
+use mathlib.Core.Path.{_∙_}
 use borrow.Author.Needs.{needs}
 use borrow.Author.Tests.{eq-eqb, ne-eqb}
-use Rattle.tables.proofs.Bits.{bit-none}
+use Rattle.rules.proofs.Bits.{bit-none}
 use Rattle.tables.proofs.survey.kept.Statement.{statement}
 use Rattle.tables.proofs.survey.kept.Tie as tie
-use Rattle.tables.proofs.survey.kept.Reads as reads
-use Rattle.tables.proofs.survey.kept.Lts as lts
 
 cast-if1 : tie.Need-cast-if1
 cast-if1 c = search needs

@@ -1,26 +1,23 @@
 -- `tables::survey::met_pairs` meets its contract. The invariant: what the letters below a make count is found.
-use mathlib.Core.Path.{_≡_, ap, _∙_}
+use mathlib.Core.Path.{ap, _∙_}
 use mathlib.Core.Bool.{Bool, _&&_}
-use Prim.Native.Nat.{ℕ, suc, _-_, _*_, _^_, _<_, _≤_}
+use Prim.Native.Nat.{ℕ, _-_, _*_, _^_, _<_, _≤_}
 use native.Mathlib.Nat.{le-antisymm, lt-of-le-of-lt}
 use native.Mathlib.Omega.{arith}
 use borrow.Author.Needs.{needs}
 use lib.Bits.{or-lt}
-use lib.ListN.{length}
 use lib.Pow.{pow-pos}
 use Rattle.rules.specs.Basics.{bit, anyBelow}
-use Rattle.rules.specs.Tables.{tableOf, countsBy}
-use Rattle.tables.proofs.Bits.{bit-none}
+use Rattle.rules.specs.Tables.{tableOf}
+use Rattle.rules.proofs.Bits.{bit-none}
+use Rattle.tables.specs.Parts.{makesCount}
 use Rattle.tables.proofs.Cells.{Sized, sized, row-within, marks-byte, counts-byte, counts-below}
 use Rattle.tables.proofs.Surveying.{MetBelow, met-more}
 use Rattle.tables.proofs.survey.met_pairs.Statement.{statement}
 use Rattle.tables.proofs.survey.met_pairs.Tie as tie
-use Rattle.tables.proofs.survey.met_pairs.Reads as reads
-use Rattle.tables.proofs.survey.met_pairs.Lts as lts
-use Rattle.tables.proofs.survey.kept.Reads as kept-reads
 
 abbrev Inv-loop : tie.InvT-loop
-Inv-loop table letters q m cells first met₀ a₀ met a = (a ≤ tableOf table .letters) × (met < 2 ^ tableOf table .pairs) × MetBelow (λ i. countsBy (tableOf table) (suc i)) q letters a met
+Inv-loop table letters q m cells first met₀ a₀ met a = (a ≤ tableOf table .letters) × (met < 2 ^ tableOf table .pairs) × MetBelow (makesCount table) q letters a met
 
 abbrev μ-loop : tie.MeasureT-loop
 μ-loop table letters q m cells first met₀ a₀ met a = m - a
@@ -83,16 +80,19 @@ loop-less : tie.Need-loop-less Inv-loop μ-loop
 loop-less c = omega arith
 
 loop-again : tie.Need-loop-again Inv-loop μ-loop
-loop-again c = let s = c .before .before .before .before .before .before .before in
-    let t = tableOf (s .args .table .now) in
+loop-again c =
+    let s = c .before .before .before .before .before .before .before in
+    let bs = s .args .table .now in
     let i = c .before .before .before .loop in
     let l = c .before .before .loop-test .taken in
-    (omega arith, or-lt (t .pairs) (i .met) (c .kept .result) (i .inv .1) (lt-of-le-of-lt (c .kept .ensures .1) (counts-below _ (s .pre .0) (s .args .q) (i .a) (s .pre .1) l)), met-more (λ x. countsBy t (suc x)) (s .args .q) (s .args .letters) (i .a) (i .met) (c .kept .result) (i .inv .2) (λ x. c .kept .ensures .0 x ∙ ap (λ (y : Bool). bit (i .a) (s .args .letters) && y) (counts-byte _ (s .pre .0) x (s .args .q) (i .a) (s .pre .1) l)))
+    let small = lt-of-le-of-lt (c .kept .ensures .1) (counts-below bs (s .pre .0) (s .args .q) (i .a) (s .pre .1) l) in
+    (omega arith, or-lt (tableOf bs .pairs) (i .met) (c .kept .result) (i .inv .1) small, met-more (makesCount bs) (s .args .q) (s .args .letters) (i .a) (i .met) (c .kept .result) (i .inv .2) (λ x. c .kept .ensures .0 x ∙ ap (λ (y : Bool). bit (i .a) (s .args .letters) && y) (counts-byte bs (s .pre .0) x (s .args .q) (i .a) (s .pre .1) l)))
 
 returns : tie.Need-returns Inv-loop μ-loop
-returns c = let s = c .before .before .before .before .before in
+returns c =
+    let s = c .before .before .before .before .before in
     let i = c .before .loop in
-    (λ x. i .inv .2 x ∙ ap (λ (y : ℕ). anyBelow y (λ a. bit a (s .args .letters) && countsBy (tableOf (s .args .table .now)) (suc x) (s .args .q) a)) (le-antisymm (i .inv .0) (c .loop-test .left)), i .inv .1)
+    (λ x. i .inv .2 x ∙ ap (λ (y : ℕ). anyBelow y (λ a. bit a (s .args .letters) && makesCount (s .args .table .now) x (s .args .q) a)) (le-antisymm (i .inv .0) (c .loop-test .left)), i .inv .1)
 
 pub met-pairs-spec : {M : Type 1} → statement M
 met-pairs-spec =

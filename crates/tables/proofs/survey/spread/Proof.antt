@@ -5,11 +5,9 @@ use native.Mathlib.Nat.{le-antisymm}
 use native.Mathlib.Omega.{arith}
 use borrow.Author.Needs.{needs}
 use lib.ListN.{getD}
-use Rattle.tables.proofs.Filling.{Filled, filled-none, filled-more, filled-over}
+use Rattle.rules.proofs.Filling.{Filled, filled-none, filled-more, filled-over}
 use Rattle.tables.proofs.survey.spread.Statement.{statement}
 use Rattle.tables.proofs.survey.spread.Tie as tie
-use Rattle.tables.proofs.survey.spread.Reads as reads
-use Rattle.tables.proofs.survey.spread.Lts as lts
 
 abbrev Inv-loop : tie.InvT-loop
 Inv-loop components sets n out₀ q₀ out q = (q ≤ n) × Filled (λ i v. v ≡ getD sets (getD components i 0) 0) out₀ out q

@@ -1,15 +1,12 @@
 -- `tables::survey::with_letter` meets its contract.
-use mathlib.Core.Path.{_∙_}
 use Prim.Native.Nat.{suc, _^_, _≤_}
 use native.Mathlib.Nat.{pow-suc}
 use native.Mathlib.Omega.{arith}
 use borrow.Author.Needs.{needs}
 use lib.Pow.{pow-mono}
-use Rattle.tables.proofs.Bits.{one-shifted}
+use Rattle.rules.proofs.Bits.{one-shifted}
 use Rattle.tables.proofs.survey.with_letter.Statement.{statement}
 use Rattle.tables.proofs.survey.with_letter.Tie as tie
-use Rattle.tables.proofs.survey.with_letter.Reads as reads
-use Rattle.tables.proofs.survey.with_letter.Lts as lts
 
 cast-result : tie.Need-cast-result
 cast-result c = search needs
@@ -18,7 +15,8 @@ shl-result : tie.Need-shl-result
 shl-result c = search needs
 
 add-result : tie.Need-add-result
-add-result c = let a = c .before .args .a in
+add-result c =
+    let a = c .before .args .a in
     let h : 2 ^ suc a ≤ 2 ^ 16 = pow-mono (c .before .pre .0) in
     rw (one-shifted 16 a (c .before .pre .0)) (omega (arith, pow-suc 2 a))
 

@@ -1,52 +1,52 @@
 -- `tables::survey::write_counted` meets its contract: what each component meets is gathered, and each state gets its component's.
-use mathlib.Core.Path.{_≡_, ap, _∙_}
+use mathlib.Core.Path.{ap, _∙_}
 use mathlib.Core.List.{List}
-use Prim.Native.Nat.{ℕ, suc, _<_}
+use Prim.Native.Nat.{ℕ}
 use native.Mathlib.Omega.{arith}
 use borrow.Author.Needs.{needs}
-use lib.ListN.{getD}
-use Rattle.rules.specs.Tables.{tableOf, systemOf, countsBy}
+use Rattle.rules.specs.Tables.{tableOf}
 use Rattle.rules.specs.Says.{over}
 use Rattle.rules.proofs.Arrays.{tabulate-same}
+use Rattle.rules.proofs.Filling.{zeros-at}
+use Rattle.tables.specs.Parts.{statesOf, systemIn, makesCount}
 use Rattle.tables.proofs.Cells.{sized}
-use Rattle.tables.proofs.Filling.{zeros-at}
 use Rattle.tables.proofs.Surveying.{component-below, gathered-none, gathered-met}
 use Rattle.tables.proofs.survey.write_counted.Statement.{statement}
 use Rattle.tables.proofs.survey.write_counted.Tie as tie
-use Rattle.tables.proofs.survey.write_counted.Reads as reads
-use Rattle.tables.proofs.survey.write_counted.Lts as lts
-use Rattle.tables.proofs.survey.gather.Reads as gather-reads
-use Rattle.tables.proofs.survey.spread.Reads as spread-reads
 
 slice-aggregate-gather : tie.Need-slice-aggregate-gather
 slice-aggregate-gather c = search needs
 
 gather-requires : tie.Need-gather-requires
-gather-requires c κs = let s = c .before .before .before .before .before in
-    let t = tableOf (s .args .table .now) in
-    ((s .pre .0 .0, s .pre .0 .1, s .pre .0 .2, sized _ (s .pre .0 .0) .states), (s .pre .1, gathered-none (systemOf t) (λ i. countsBy t (suc i)) (t .pairs) _ (zeros-at 64)))
+gather-requires c κs =
+    let s = c .before .before .before .before .before in
+    let bs = s .args .table .now in
+    ((s .pre .0, s .pre .1, s .pre .2, sized bs (s .pre .0) .states), gathered-none (systemIn bs) (makesCount bs) (tableOf bs .pairs) _ (zeros-at 64))
 
 slice-aggregate-spread : tie.Need-slice-aggregate-spread
 slice-aggregate-spread c = search needs
 
 shared-slice-read-spread : tie.Need-shared-slice-read-spread
-shared-slice-read-spread c = omega (arith, sized _ (c .before .before .before .before .before .before .before .before .before .pre .0 .0))
+shared-slice-read-spread c = omega (arith, sized _ (c .before .before .before .before .before .before .before .before .before .pre .0))
 
 cast-spread : tie.Need-cast-spread
 cast-spread c = search needs
 
 spread-requires : tie.Need-spread-requires
-spread-requires c κs = let s = c .before .before .before .before .before .before .before .before .before .before in
-    (s .pre .0 .1 .enough, s .pre .0 .3, λ q l. rw (c .before .before .before .before .gather .kept .1 .1 .1 .0, s .pre .0 .1 .number q l) (omega (arith, component-below (systemOf (tableOf (s .args .table .now))) q l, sized _ (s .pre .0 .0))))
+spread-requires c κs =
+    let s = c .before .before .before .before .before .before .before .before .before .before in
+    let bs = s .args .table .now in
+    (s .pre .1 .enough, s .pre .3, λ q l. rw (c .before .before .before .before .gather .kept .1 .1 .1 .0, s .pre .1 .entry q l) (omega (arith, component-below (systemIn bs) q l, sized bs (s .pre .0))))
 
 same-length : tie.Need-same-length
 same-length c = search needs
 
 returns : tie.Need-returns
-returns c = let s = c .before .before .before .before .before .before .before .before .before .before .before .before .before in
-    let t = tableOf (s .args .table .now) in
+returns c =
+    let s = c .before .before .before .before .before .before .before .before .before .before .before .before .before in
+    let bs = s .args .table .now in
     let g = c .before .before .before .before .before .before .before .gather in
-    c .before .before .spread .ensures ∙ ap (λ (xs : List ℕ). over xs (s .args .out .now)) (tabulate-same _ _ (t .states) 0 (λ q l u. gathered-met (systemOf t) (λ i. countsBy t (suc i)) (t .pairs) (s .args .components .now) (g .last .1 .1 .1 .0) (s .pre .0 .1) (g .ensures) q (omega arith)))
+    c .before .before .spread .ensures ∙ ap (λ (xs : List ℕ). over xs (s .args .out .now)) (tabulate-same _ _ (statesOf bs) 0 (λ q l u. gathered-met (systemIn bs) (makesCount bs) (tableOf bs .pairs) (s .args .components .now) (g .last .1 .1 .1 .0) (s .pre .1) (g .ensures) q (omega arith)))
 
 pub write-counted-spec : {M : Type 1} → statement M
 write-counted-spec =

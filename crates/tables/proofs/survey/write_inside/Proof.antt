@@ -7,12 +7,9 @@ use borrow.Author.Needs.{needs}
 use Rattle.rules.specs.Tables.{tableOf}
 use Rattle.tables.specs.Surveys.{insideLetters}
 use Rattle.tables.proofs.Cells.{Sized, sized}
-use Rattle.tables.proofs.Filling.{Filled, filled-none, filled-more, filled-over}
+use Rattle.rules.proofs.Filling.{Filled, filled-none, filled-more, filled-over}
 use Rattle.tables.proofs.survey.write_inside.Statement.{statement}
 use Rattle.tables.proofs.survey.write_inside.Tie as tie
-use Rattle.tables.proofs.survey.write_inside.Reads as reads
-use Rattle.tables.proofs.survey.write_inside.Lts as lts
-use Rattle.tables.proofs.survey.inside_letters.Reads as inside-letters-reads
 
 abbrev Inv-loop : tie.InvT-loop
 Inv-loop table components inside₀ n q₀ inside q = (q ≤ n) × Filled (λ i v. v ≡ insideLetters (tableOf table) i) inside₀ inside q

@@ -1,11 +1,9 @@
 -- `tables::words::with` meets its contract.
 use Prim.Native.Nat.{_^_}
 use borrow.Author.Needs.{needs}
-use Rattle.tables.proofs.Bits.{bit-or, bit-one, one-shifted}
+use Rattle.rules.proofs.Bits.{bit-or, bit-one, one-shifted}
 use Rattle.tables.proofs.words.with.Statement.{statement}
 use Rattle.tables.proofs.words.with.Tie as tie
-use Rattle.tables.proofs.words.with.Reads as reads
-use Rattle.tables.proofs.words.with.Lts as lts
 
 shl-result : tie.Need-shl-result
 shl-result c = search needs

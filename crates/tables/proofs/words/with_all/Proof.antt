@@ -2,12 +2,9 @@
 use mathlib.Core.Path.{sym, _∙_}
 use mathlib.Core.Bool.{or-false}
 use borrow.Author.Needs.{needs}
-use Rattle.tables.proofs.Bits.{bit-or}
+use Rattle.rules.proofs.Bits.{bit-or}
 use Rattle.tables.proofs.words.with_all.Statement.{statement}
 use Rattle.tables.proofs.words.with_all.Tie as tie
-use Rattle.tables.proofs.words.with_all.Reads as reads
-use Rattle.tables.proofs.words.with_all.Lts as lts
-use Rattle.tables.proofs.words.has.Reads as has-reads
 
 has-requires : tie.Need-has-requires
 has-requires c κs = search needs

@@ -7,17 +7,16 @@
 --     bits-determine, bits-are      numbers with the same bits are equal
 use mathlib.Core.Path.{_≡_, refl, sym, ap, _∙_}
 use mathlib.Core.Bool.{Bool, true, false, _||_}
-use Prim.Native.Nat.{ℕ, zero, suc, _+_, _-_, _*_, _/_, _%_, _^_, max, _<_, _≤_}
-use native.Mathlib.Nat.{mod-lt, one-mul, pow-suc, div-eq-of-lt, zero-div, div-one, zero-add, not-suc-le-zero}
+use Prim.Native.Nat.{ℕ, zero, suc, _+_, _-_, _*_, _/_, _%_, _^_, max, _<_}
+use native.Mathlib.Nat.{one-mul, pow-suc, div-eq-of-lt, zero-div, div-one, zero-add, not-suc-le-zero}
 use native.Mathlib.Numerals.{add-one}
 use native.Mathlib.Omega.{arith}
 use lib.Dec.{eqb, ltb, lit<}
 use lib.Bits.{bitOr, or-step, or-shr, or-shifted}
 use lib.Pow.{pow-lt, pow-add, shl-exact, shl-shr, shr-shr}
 use borrow.Author.Tests.{eqb-true, eqb-false, eq-eqb, ne-eqb, ltb-true, ltb-false}
-use Rattle.rules.specs.Basics.{bit, when}
-use Rattle.tables.specs.Words.{asBits}
+use Rattle.rules.specs.Basics.{bit, when, asBits}
 use Rattle.rules.proofs.Bools.{by}
 
 -- two digits, of which one is 1
 digits-or : (x y : ℕ) → x < 2 → y < 2 → eqb (max x y) 1 ≡ eqb x 1 || eqb y 1
