@@ -60,7 +60,13 @@ module _ (bs : List ℕ) (taken : tableFault bs ≡ 0) where
   pub sized : Sized bs
   sized =
       let t = taken-table bs taken in
-      record { whole = t .exact; states = t .sizes .most-states; letters = t .sizes .most-letters; pairs = t .sizes .most-pairs; cells = cells-most _ _ (t .sizes .most-states) (t .sizes .most-letters) }
+      record {
+        whole = t .exact;
+        states = t .sizes .most-states;
+        letters = t .sizes .most-letters;
+        pairs = t .sizes .most-pairs;
+        cells = cells-most _ _ (t .sizes .most-states) (t .sizes .most-letters);
+      }
 
   pub cell-byte : (q a : ℕ) → q < tableOf bs .states → a < tableOf bs .letters → headerSize + q * tableOf bs .letters + a < length bs
   cell-byte q a l r = omega (arith, cell-within (tableOf bs .states) (tableOf bs .letters) q a l r, sized .whole)

@@ -42,7 +42,10 @@ enough : (c : tie.Else3) → let bs = bytes (c .before) in ltb (length bs) (tabl
 enough c = le-ltb _ _ (c .if3 .left)
 
 exact : (c : tie.Else4) → let bs = bytes (c .before .before) in ltb (tableLength (tableOf bs .states) (tableOf bs .letters)) (length bs) ≡ false
-exact c = le-ltb _ _ (c .if4 .left)
+exact c =
+    let bs = bytes (c .before .before) in
+    let l : length bs ≤ tableLength (tableOf bs .states) (tableOf bs .letters) = omega arith in
+    le-ltb _ _ l
 
 -- what both checks of the cells find decides the rest
 judged : (c : tie.After-marks-fault)

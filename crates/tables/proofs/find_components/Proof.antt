@@ -33,7 +33,9 @@ same-length : tie.Need-same-length
 same-length c = search needs
 
 returns-3 : tie.Need-returns-3
-returns-3 c = let e = c .before .before .before .before in components-found _ (taken (e .before .before)) _ _ (e .if2 .left) (c .before .before .write-components .ensures)
+returns-3 c =
+    let e = c .before .before .before .before in
+    components-found _ (taken (e .before .before)) _ _ (e .if2 .left) (c .before .before .write-components .ensures)
 
 pub find-components-spec : {M : Type 1} → statement M
 find-components-spec =

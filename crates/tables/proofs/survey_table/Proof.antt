@@ -1,6 +1,7 @@
 -- `tables::survey_table` meets its contract: each return is one law of `Promises`.
-use mathlib.Core.Path.{_≡_, sym, _∙_}
-use Prim.Native.Nat.{_≤_}
+use mathlib.Core.Path.{sym, _∙_}
+use mathlib.Core.List.{List}
+use Prim.Native.Nat.{ℕ, _≤_}
 use native.Mathlib.Omega.{arith}
 use borrow.Author.Needs.{needs}
 use borrow.Author.Tests.{ltb-false}
@@ -17,6 +18,7 @@ use Rattle.tables.proofs.Promises.{survey-refused, survey-short, survey
 use Rattle.tables.proofs.survey_table.Statement.{statement}
 use Rattle.tables.proofs.survey_table.Tie as tie
 
+-- what the tests leave
 taken : (c : tie.Else1) → Taken (c .before .before .before .before .before .args .table .now)
 taken c = sym (c .before .check-table .ensures) ∙ c .if1 .left
 
@@ -29,12 +31,30 @@ room c =
     let r = or-none (ltb (length (s .args .inside .now)) n) (ltb (length (s .args .counted .now)) n) (c .if2 .left) in
     (ltb-false _ n (r .0), ltb-false _ n (r .1))
 
-numbers : (c : tie.After-write-components)
-    → let bs = c .before .before .before .before .before .before .before .before .before .args .table .now in
-    Listed (statesOf bs) (componentOf (systemIn bs)) (c .write-components .last .1 .0)
-numbers c =
-    let bs = c .before .before .before .before .before .before .before .before .before .args .table .now in
-    listed (statesOf bs) (componentOf (systemIn bs)) _ (c .write-components .last .1 .0) (omega (arith, c .write-components .kept .1 .0, sized bs (taken (c .before .before .before .before)))) (c .write-components .ensures)
+-- the components are written
+module _ (c : tie.After-write-components) where
+  abbrev tests : tie.Else2
+  tests = c .before .before
+
+  abbrev bytes : List ℕ
+  bytes = tests .before .before .before .before .before .before .before .args .table .now
+
+  is-taken : Taken bytes
+  is-taken = taken (tests .before .before)
+
+  numbers : Listed (statesOf bytes) (componentOf (systemIn bytes)) (c .write-components .last .1 .0)
+  numbers =
+      let enough : statesOf bytes ≤ length (c .write-components .last .1 .0) = omega (arith, c .write-components .kept .1 .0, sized bytes is-taken) in
+      listed (statesOf bytes) (componentOf (systemIn bytes)) _ (c .write-components .last .1 .0) enough (c .write-components .ensures)
+
+-- the letters that stay inside are written
+inside-listed : (c : tie.After-write-inside)
+    → let bs = bytes (c .before .before .before .before) in Listed (statesOf bs) (insideLetters (tableOf bs)) (c .write-inside .last .1 .1 .0)
+inside-listed c =
+    let w = c .before .before .before .before in
+    let bs = bytes w in
+    let enough : statesOf bs ≤ length (c .write-inside .last .1 .1 .0) = rw (c .write-inside .kept .1 .1 .0) (room (tests w) .0) in
+    listed (statesOf bs) (insideLetters (tableOf bs)) _ (c .write-inside .last .1 .1 .0) enough (c .write-inside .ensures)
 
 check-table-requires : tie.Need-check-table-requires
 check-table-requires c κs = search needs
@@ -61,19 +81,16 @@ slice-aggregate-write-inside : tie.Need-slice-aggregate-write-inside
 slice-aggregate-write-inside c = search needs
 
 write-inside-requires : tie.Need-write-inside-requires
-write-inside-requires c κs = (taken (c .before .before .before .before .before .before .before), numbers (c .before .before .before), room (c .before .before .before .before .before) .0)
+write-inside-requires c κs = let w = c .before .before .before in (is-taken w, numbers w, room (tests w) .0)
 
 slice-aggregate-write-counted : tie.Need-slice-aggregate-write-counted
 slice-aggregate-write-counted c = search needs
 
 write-counted-requires : tie.Need-write-counted-requires
 write-counted-requires c κs =
-    let s = c .before .before .before .before .before .before .before .before .before .before .before .before .before .before .before .before .before .before in
-    let bs = s .args .table .now in
-    let w = c .before .before .before .before .before .write-inside in
-    let r = room (c .before .before .before .before .before .before .before .before .before .before .before) in
-    let same : length (w .last .1 .1 .0) ≡ length (s .args .inside .now) = w .kept .1 .1 .0 in
-    (taken (c .before .before .before .before .before .before .before .before .before .before .before .before .before), numbers (c .before .before .before .before .before .before .before .before .before), listed (statesOf bs) (insideLetters (tableOf bs)) (s .args .inside .now) (w .last .1 .1 .0) (rw same (r .0)) (w .ensures), r .1)
+    let i = c .before .before .before .before .before in
+    let w = i .before .before .before .before in
+    (is-taken w, numbers w, inside-listed i, room (tests w) .1)
 
 same-length : tie.Need-same-length
 same-length c = search needs
@@ -82,7 +99,10 @@ same-length-2 : tie.Need-same-length-2
 same-length-2 c = search needs
 
 returns-3 : tie.Need-returns-3
-returns-3 c = surveyed _ (taken (c .before .before .before .before .before .before .before .before .before .before .before .before .before .before .before .before)) _ _ _ _ (c .before .before .before .before .before .before .before .before .before .before .before .before .before .before .if2 .left) (c .before .before .before .before .before .before .before .before .write-inside .ensures) (c .before .before .write-counted .ensures)
+returns-3 c =
+    let i = c .before .before .before .before .before .before .before .before in
+    let w = i .before .before .before .before in
+    surveyed _ (is-taken w) _ _ _ _ (tests w .if2 .left) (i .write-inside .ensures) (c .before .before .write-counted .ensures)
 
 pub survey-table-spec : {M : Type 1} → statement M
 survey-table-spec =

@@ -30,7 +30,12 @@ loop-less : tie.Need-loop-less Inv-loop μ-loop
 loop-less c = omega arith
 
 loop-again : tie.Need-loop-again Inv-loop μ-loop
-loop-again c = let i = c .before .before .loop in let l : i .c < length (c .before .before .before .args .targets .now) = omega arith in (omega arith, target-turn (c .before .before .before .args .n) (i .bad) (c .before .before .before .args .targets .now) (i .c) l ∙ i .inv .1)
+loop-again c =
+    let s = c .before .before .before in
+    let i = c .before .before .loop in
+    let ts = s .args .targets .now in
+    let l : i .c < length ts = omega arith in
+    (omega arith, target-turn (s .args .n) (i .bad) ts (i .c) l ∙ i .inv .1)
 
 returns : tie.Need-returns Inv-loop μ-loop
 returns c = target-end _ _ _ _ (c .loop-test .left) (c .before .loop .inv .1)

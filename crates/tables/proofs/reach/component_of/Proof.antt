@@ -17,10 +17,17 @@ Inv-loop rows q p₀ p = (p ≤ q) × ((i : ℕ) → i < p → has rows q i && h
 abbrev μ-loop : tie.MeasureT-loop
 μ-loop rows q p₀ p = q - p
 
-tested : (c : tie.After-has2 Inv-loop μ-loop)
-    → has (c .before .before .before .before .before .before .before .args .rows .now) (c .before .before .before .before .before .before .before .args .q) (c .before .before .before .before .before .loop .p) && has (c .before .before .before .before .before .before .before .args .rows .now) (c .before .before .before .before .before .loop .p) (c .before .before .before .before .before .before .before .args .q)
-    ≡ c .before .before .has .result && c .has2 .result
-tested c = ap₂ (λ (x y : Bool). x && y) (sym (c .before .before .has .ensures)) (sym (c .has2 .ensures))
+-- the place where both tests of a turn are made: the entry, and the turn's beginning
+module _ (c : tie.After-has2 Inv-loop μ-loop) where
+  abbrev start : tie.Start Inv-loop μ-loop
+  start = c .before .before .before .before .before .before .before
+
+  abbrev turn : tie.At-loop Inv-loop μ-loop
+  turn = c .before .before .before .before .before
+
+  tested : has (start .args .rows .now) (start .args .q) (turn .loop .p) && has (start .args .rows .now) (turn .loop .p) (start .args .q)
+      ≡ c .before .before .has .result && c .has2 .result
+  tested = ap₂ (λ (x y : Bool). x && y) (sym (c .before .before .has .ensures)) (sym (c .has2 .ensures))
 
 loop-holds : tie.Need-loop-holds Inv-loop μ-loop
 loop-holds c = (search needs, below-none _)
@@ -47,7 +54,9 @@ cast-result : tie.Need-cast-result Inv-loop μ-loop
 cast-result c = omega arith
 
 returns : tie.Need-returns Inv-loop μ-loop
-returns c = λ s l h. component-met s (has (c .before .before .before .before .before .before .before .before .args .rows .now)) h _ l _ (c .before .before .before .before .before .loop-test .taken) (tested (c .before) ∙ c .if1 .taken) (c .before .before .before .before .before .before .loop .inv .1)
+returns c =
+    λ s l h. let turn-test = c .before .before .before .before .before .loop-test .taken in
+    component-met s (has (start (c .before) .args .rows .now)) h _ l _ turn-test (tested (c .before) ∙ c .if1 .taken) (turn (c .before) .loop .inv .1)
 
 add-p : tie.Need-add-p Inv-loop μ-loop
 add-p c = omega arith
@@ -56,13 +65,15 @@ loop-less : tie.Need-loop-less Inv-loop μ-loop
 loop-less c = omega arith
 
 loop-again : tie.Need-loop-again Inv-loop μ-loop
-loop-again c = (omega arith, below-more _ _ (c .before .before .before .before .before .before .loop .inv .1) (tested (c .before) ∙ c .if1 .left))
+loop-again c = (omega arith, below-more _ _ (turn (c .before) .loop .inv .1) (tested (c .before) ∙ c .if1 .left))
 
 cast-result-2 : tie.Need-cast-result-2 Inv-loop μ-loop
 cast-result-2 c = omega arith
 
 returns-2 : tie.Need-returns-2 Inv-loop μ-loop
-returns-2 c = λ s l h. component-self s (has (c .before .before .before .args .rows .now)) h _ l (rw (le-antisymm (c .before .loop .inv .0) (c .loop-test .left)) at (c .before .loop .inv .1))
+returns-2 c =
+    λ s l h. let none = rw (le-antisymm (c .before .loop .inv .0) (c .loop-test .left)) at (c .before .loop .inv .1) in
+    component-self s (has (c .before .before .before .args .rows .now)) h _ l none
 
 pub component-of-spec : {M : Type 1} → statement M
 component-of-spec =

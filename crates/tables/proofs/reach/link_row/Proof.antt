@@ -3,7 +3,8 @@ use Prim.Native.Nat.{_-_, _≤_, _*_}
 use native.Mathlib.Nat.{le-antisymm}
 use native.Mathlib.Omega.{arith}
 use borrow.Author.Needs.{needs}
-use Rattle.rules.specs.Tables.{tableOf, systemOf}
+use Rattle.rules.specs.Tables.{tableOf}
+use Rattle.tables.specs.Parts.{systemIn}
 use Rattle.rules.proofs.Bits.{bit-none}
 use Rattle.tables.proofs.Cells.{Sized, sized, row-within, cell-byte, target-byte}
 use Rattle.tables.proofs.Closure.{LinksBelow, links-more, links-all}
@@ -11,7 +12,7 @@ use Rattle.tables.proofs.reach.link_row.Statement.{statement}
 use Rattle.tables.proofs.reach.link_row.Tie as tie
 
 abbrev Inv-loop : tie.InvT-loop
-Inv-loop table q n m first set₀ a₀ set a = (a ≤ tableOf table .letters) × LinksBelow (systemOf (tableOf table)) q a set
+Inv-loop table q n m first set₀ a₀ set a = (a ≤ tableOf table .letters) × LinksBelow (systemIn table) q a set
 
 abbrev μ-loop : tie.MeasureT-loop
 μ-loop table q n m first set₀ a₀ set a = m - a
@@ -19,7 +20,8 @@ abbrev μ-loop : tie.MeasureT-loop
 known : (c : tie.Start Inv-loop μ-loop) → Sized (c .args .table .now)
 known c = sized _ (c .pre .0)
 
-row-fits : (c : tie.Start Inv-loop μ-loop) → c .args .q * tableOf (c .args .table .now) .letters ≤ tableOf (c .args .table .now) .states * tableOf (c .args .table .now) .letters
+row-fits : (c : tie.Start Inv-loop μ-loop)
+    → let t = tableOf (c .args .table .now) in c .args .q * t .letters ≤ t .states * t .letters
 row-fits c = row-within _ _ (c .args .q) (c .pre .1)
 
 shared-slice-read-n : tie.Need-shared-slice-read-n Inv-loop μ-loop
@@ -44,7 +46,8 @@ add-with-target : tie.Need-add-with-target Inv-loop μ-loop
 add-with-target c = omega (arith, row-fits (c .before .before .before .before .before), known (c .before .before .before .before .before))
 
 shared-slice-read-with-target : tie.Need-shared-slice-read-with-target Inv-loop μ-loop
-shared-slice-read-with-target c = let s = c .before .before .before .before .before .before in cell-byte _ (s .pre .0) (s .args .q) _ (s .pre .1) (c .before .loop-test .taken)
+shared-slice-read-with-target c =
+    let s = c .before .before .before .before .before .before in cell-byte _ (s .pre .0) (s .args .q) _ (s .pre .1) (c .before .loop-test .taken)
 
 with-target-requires : tie.Need-with-target-requires Inv-loop μ-loop
 with-target-requires c κs = known (c .before .before .before .before .before .before) .states
@@ -58,13 +61,17 @@ loop-less c = omega arith
 loop-again : tie.Need-loop-again Inv-loop μ-loop
 loop-again c =
     let s = c .before .before .before .before .before .before .before in
-    let l = c .before .before .loop-test .taken in
-    (omega arith, links-more (systemOf (tableOf (s .args .table .now))) (s .args .q) (c .before .before .before .loop .a) (c .before .before .before .loop .set) (c .with-target .result) (c .before .before .before .loop .inv .1) (λ p b. rw (target-byte _ (s .pre .0) (s .args .q) (c .before .before .before .loop .a) (s .pre .1) l) (c .with-target .ensures p b)))
+    let bs = s .args .table .now in
+    let i = c .before .before .before .loop in
+    let byte = target-byte bs (s .pre .0) (s .args .q) (i .a) (s .pre .1) (c .before .before .loop-test .taken) in
+    let more = links-more (systemIn bs) (s .args .q) (i .a) (i .set) (c .with-target .result) (i .inv .1) in
+    (omega arith, more (λ p b. rw byte (c .with-target .ensures p b)))
 
 returns : tie.Need-returns Inv-loop μ-loop
 returns c =
+    let s = c .before .before .before .before .before in
     let i = c .before .loop in
-    links-all (systemOf (tableOf (c .before .before .before .before .before .args .table .now))) (c .before .before .before .before .before .args .q) (i .a) (i .set) (le-antisymm (i .inv .0) (c .loop-test .left)) (i .inv .1)
+    links-all (systemIn (s .args .table .now)) (s .args .q) (i .a) (i .set) (le-antisymm (i .inv .0) (c .loop-test .left)) (i .inv .1)
 
 pub link-row-spec : {M : Type 1} → statement M
 link-row-spec =

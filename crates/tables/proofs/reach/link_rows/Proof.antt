@@ -3,15 +3,15 @@ use Prim.Native.Nat.{_-_, _≤_}
 use native.Mathlib.Omega.{arith}
 use borrow.Author.Needs.{needs}
 use Rattle.rules.specs.Systems.{linked}
-use Rattle.rules.specs.Tables.{tableOf, systemOf}
 use Rattle.tables.specs.Words.{HoldsOf}
+use Rattle.tables.specs.Parts.{statesOf, systemIn}
 use Rattle.tables.proofs.Cells.{Sized, sized}
 use Rattle.rules.proofs.Filling.{Filled, filled-none, filled-more}
 use Rattle.tables.proofs.reach.link_rows.Statement.{statement}
 use Rattle.tables.proofs.reach.link_rows.Tie as tie
 
 abbrev Inv-loop : tie.InvT-loop
-Inv-loop table rows₀ n q₀ rows q = (q ≤ n) × Filled (λ i v. HoldsOf (tableOf table .states) (linked (systemOf (tableOf table)) i) v) rows₀ rows q
+Inv-loop table rows₀ n q₀ rows q = (q ≤ n) × Filled (λ i v. HoldsOf (statesOf table) (linked (systemIn table) i) v) rows₀ rows q
 
 abbrev μ-loop : tie.MeasureT-loop
 μ-loop table rows₀ n q₀ rows q = n - q
@@ -46,7 +46,8 @@ loop-less c = omega arith
 loop-again : tie.Need-loop-again Inv-loop μ-loop
 loop-again c =
     let s = c .before .before .before .before .before .before in
-    (omega arith, filled-more _ _ _ (c .before .before .loop .q) (c .link-row .result) (omega (arith, s .pre .1)) (c .link-row .ensures) (c .before .before .loop .inv .1))
+    let i = c .before .before .loop in
+    (omega arith, filled-more _ _ _ (i .q) (c .link-row .result) (omega (arith, s .pre .1)) (c .link-row .ensures) (i .inv .1))
 
 same-length : tie.Need-same-length Inv-loop μ-loop
 same-length c = c .before .loop .inv .1 .size

@@ -3,7 +3,7 @@ use mathlib.Core.Path.{refl}
 use native.Mathlib.Omega.{arith}
 use borrow.Author.Needs.{needs}
 use Rattle.rules.specs.Systems.{linked}
-use Rattle.rules.specs.Tables.{tableOf, systemOf}
+use Rattle.tables.specs.Parts.{systemIn}
 use Rattle.tables.proofs.Cells.{Sized, sized}
 use Rattle.tables.proofs.reach.write_components.Statement.{statement}
 use Rattle.tables.proofs.reach.write_components.Tie as tie
@@ -42,9 +42,11 @@ same-length c = search needs
 
 returns : tie.Need-returns
 returns c =
-    let s = c .before .before .before .before .before .before .before .before .before .before .before .before .before .before in
-    let t = systemOf (tableOf (s .args .table .now)) in
-    c .before .before .read-components .ensures t refl (c .before .before .before .before .before .before .close-rows .ensures (linked t) (c .before .before .before .before .before .before .before .before .before .link-rows .ensures))
+    let read = c .before .before in
+    let closed = read .before .before .before .before in
+    let linked-rows = closed .before .before .before in
+    let t = systemIn (linked-rows .before .before .before .before .before .args .table .now) in
+    read .read-components .ensures t refl (closed .close-rows .ensures (linked t) (linked-rows .link-rows .ensures))
 
 pub write-components-spec : {M : Type 1} → statement M
 write-components-spec =

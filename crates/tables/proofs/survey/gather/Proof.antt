@@ -1,6 +1,7 @@
 -- `tables::survey::gather` meets its contract. The invariant: what the states below q make count is gathered.
 use mathlib.Core.Path.{_≡_}
-use Prim.Native.Nat.{_-_, _≤_, _<_}
+use mathlib.Core.List.{List}
+use Prim.Native.Nat.{ℕ, _-_, _≤_, _<_}
 use native.Mathlib.Nat.{le-antisymm}
 use native.Mathlib.Omega.{arith}
 use borrow.Author.Needs.{needs}
@@ -21,12 +22,17 @@ abbrev μ-loop : tie.MeasureT-loop
 known : (c : tie.Start Inv-loop μ-loop) → Sized (c .args .table .now)
 known c = sized _ (c .pre .0 .0)
 
-home-below : (c : tie.At-loop Inv-loop μ-loop)
-    → let s = c .before .before .before .before .before .before in
-    c .loop .q < statesOf (s .args .table .now) → getD (s .args .components .now) (c .loop .q) 0 < statesOf (s .args .table .now)
-home-below c l =
-    let s = c .before .before .before .before .before .before in
-    rw (s .pre .0 .1 .entry (c .loop .q) l) (component-below (systemIn (s .args .table .now)) (c .loop .q) l)
+module _ (c : tie.In-loop Inv-loop μ-loop) where
+  abbrev start : tie.Start Inv-loop μ-loop
+  start = c .before .before .before .before .before .before .before
+
+  abbrev bytes : List ℕ
+  bytes = start .args .table .now
+
+  home-below : getD (start .args .components .now) (c .before .loop .q) 0 < statesOf bytes
+  home-below =
+      let l = c .loop-test .taken in
+      rw (start .pre .0 .1 .entry (c .before .loop .q) l) (component-below (systemIn bytes) (c .before .loop .q) l)
 
 shared-slice-read-n : tie.Need-shared-slice-read-n Inv-loop μ-loop
 shared-slice-read-n c = omega (arith, known (c .before .before .before .before .before))
@@ -38,39 +44,43 @@ loop-holds : tie.Need-loop-holds Inv-loop μ-loop
 loop-holds c = (search needs, search needs, c .before .before .before .before .before .pre .1)
 
 shared-slice-read-home : tie.Need-shared-slice-read-home Inv-loop μ-loop
-shared-slice-read-home c = omega (arith, (c .before .before .before .before .before .before .before .before) .pre .0 .1 .enough)
+shared-slice-read-home c = omega (arith, start (c .before) .pre .0 .1 .enough)
 
 cast-home : tie.Need-cast-home Inv-loop μ-loop
-cast-home c = omega (arith, home-below (c .before .before) (c .before .loop-test .taken), known (c .before .before .before .before .before .before .before .before))
+cast-home c = omega (arith, home-below (c .before), known (start (c .before)))
 
 slice-read-sets : tie.Need-slice-read-sets Inv-loop μ-loop
-slice-read-sets c = omega (arith, home-below (c .before .before .before) (c .before .before .loop-test .taken), (c .before .before .before .before .before .before .before .before .before) .pre .0 .3)
+slice-read-sets c = omega (arith, home-below (c .before .before), start (c .before .before) .pre .0 .3)
 
 mul-met-pairs : tie.Need-mul-met-pairs Inv-loop μ-loop
-mul-met-pairs c = omega (arith, known (c .before .before .before .before .before .before .before .before .before))
+mul-met-pairs c = omega (arith, known (start (c .before .before)))
 
 shared-slice-read-met-pairs : tie.Need-shared-slice-read-met-pairs Inv-loop μ-loop
-shared-slice-read-met-pairs c = omega (arith, (c .before .before .before .before .before .before .before .before .before .before) .pre .0 .2 .enough)
+shared-slice-read-met-pairs c = omega (arith, start (c .before .before .before) .pre .0 .2 .enough)
 
 met-pairs-requires : tie.Need-met-pairs-requires Inv-loop μ-loop
-met-pairs-requires c κs = ((c .before .before .before .before .before .before .before .before .before .before) .pre .0 .0, c .before .before .before .loop-test .taken)
+met-pairs-requires c κs = let i = c .before .before .before in (start i .pre .0 .0, i .loop-test .taken)
 
 slice-write-sets : tie.Need-slice-write-sets Inv-loop μ-loop
-slice-write-sets c = omega (arith, home-below (c .before .before .before .before .before) (c .before .before .before .before .loop-test .taken), (c .before .before .before .before .before .before .before .before .before .before .before) .pre .0 .3)
+slice-write-sets c = let i = c .before .before .before .before in omega (arith, home-below i, start i .pre .0 .3)
 
 add-q : tie.Need-add-q Inv-loop μ-loop
-add-q c = omega (arith, known (c .before .before .before .before .before .before .before .before .before .before .before))
+add-q c = omega (arith, known (start (c .before .before .before .before)))
 
 loop-less : tie.Need-loop-less Inv-loop μ-loop
 loop-less c = omega arith
 
 loop-again : tie.Need-loop-again Inv-loop μ-loop
 loop-again c =
-    let s = c .before .before .before .before .before .before .before .before .before .before .before in
-    let bs = s .args .table .now in
-    let i = c .before .before .before .before .before .loop in
-    let l = c .before .before .before .before .loop-test .taken in
-    (omega arith, simp length-set (i .inv .1), gathered-more (systemIn bs) (makesCount bs) (tableOf bs .pairs) (s .args .components .now) (i .sets) (i .q) (getD (s .args .inside .now) (i .q) 0) (c .met-pairs .result) (s .pre .0 .1) l (omega (arith, s .pre .0 .3)) (s .pre .0 .2 .entry (i .q) l) (c .met-pairs .ensures .0) (c .met-pairs .ensures .1) (i .inv .2))
+    let in-loop = c .before .before .before .before in
+    let s = start in-loop in
+    let bs = bytes in-loop in
+    let i = in-loop .before .loop in
+    let l = in-loop .loop-test .taken in
+    let letters = getD (s .args .inside .now) (i .q) 0 in
+    let more = gathered-more (systemIn bs) (makesCount bs) (tableOf bs .pairs) (s .args .components .now) (i .sets) (i .q) letters (c .met-pairs .result) in
+    let gathered = more (s .pre .0 .1) l (omega (arith, s .pre .0 .3)) (s .pre .0 .2 .entry (i .q) l) (c .met-pairs .ensures .0) (c .met-pairs .ensures .1) (i .inv .2) in
+    (omega arith, simp length-set (i .inv .1), gathered)
 
 same-length : tie.Need-same-length Inv-loop μ-loop
 same-length c = c .before .loop .inv .1

@@ -23,7 +23,7 @@ abbrev μ-loop : tie.MeasureT-loop
 known : (c : tie.Start Inv-loop μ-loop) → Sized (c .args .table .now)
 known c = sized _ (c .pre .0)
 
-room : (c : tie.Start Inv-loop μ-loop) → c .args .q * tableOf (c .args .table .now) .letters ≤ tableOf (c .args .table .now) .states * tableOf (c .args .table .now) .letters
+room : (c : tie.Start Inv-loop μ-loop) → let t = tableOf (c .args .table .now) in c .args .q * t .letters ≤ t .states * t .letters
 room c = row-within _ _ (c .args .q) (c .pre .1)
 
 shared-slice-read-n : tie.Need-shared-slice-read-n Inv-loop μ-loop
@@ -51,13 +51,16 @@ add-is-home : tie.Need-add-is-home Inv-loop μ-loop
 add-is-home c = omega (arith, known (c .before .before .before .before .before .before .before), room (c .before .before .before .before .before .before .before))
 
 shared-slice-read-is-home : tie.Need-shared-slice-read-is-home Inv-loop μ-loop
-shared-slice-read-is-home c = let s = c .before .before .before .before .before .before .before .before in cell-byte _ (s .pre .0) (s .args .q) _ (s .pre .1) (c .before .loop-test .taken)
+shared-slice-read-is-home c =
+    let s = c .before .before .before .before .before .before .before .before in cell-byte _ (s .pre .0) (s .args .q) _ (s .pre .1) (c .before .loop-test .taken)
 
 is-home-requires : tie.Need-is-home-requires Inv-loop μ-loop
 is-home-requires c κs = c .before .before .before .before .before .before .before .before .pre .2 .enough
 
 with-letter-requires : tie.Need-with-letter-requires Inv-loop μ-loop
-with-letter-requires c κs = (omega (arith, known (c .before .before .before .before .before .before .before .before .before)), rw (c .before .before .before .loop .inv .1) (as-bits-below _ (c .before .before .before .loop .a)))
+with-letter-requires c κs =
+    let i = c .before .before .before .loop in
+    (omega (arith, known (c .before .before .before .before .before .before .before .before .before)), rw (i .inv .1) (as-bits-below _ (i .a)))
 
 add-a : tie.Need-add-a Inv-loop μ-loop
 add-a c = omega (arith, known (c .before .before .before .before .before .before .before .before .before .before))
@@ -68,14 +71,20 @@ loop-less c = omega arith
 loop-again : tie.Need-loop-again Inv-loop μ-loop
 loop-again c =
     let s = c .before .before .before .before .before .before .before .before .before .before in
+    let bs = s .args .table .now in
     let i = c .before .before .before .before .loop in
-    let stays = target-inside (s .args .table .now) (s .args .components .now) (s .pre .0) (s .pre .2) (s .args .q) (i .a) (s .pre .1) (c .before .before .before .loop-test .taken) (c .before .is-home .result) (c .before .is-home .ensures) in
-    (omega arith, as-bits-more (isInside (systemIn (s .args .table .now)) (s .args .q)) (i .a) (i .letters) (c .with-letter .result) (c .before .is-home .result) (i .inv .1) stays (c .with-letter .ensures))
+    let l = c .before .before .before .loop-test .taken in
+    let home = c .before .is-home in
+    let stays = target-inside bs (s .args .components .now) (s .pre .0) (s .pre .2) (s .args .q) (i .a) (s .pre .1) l (home .result) (home .ensures) in
+    let more = as-bits-more (isInside (systemIn bs) (s .args .q)) (i .a) (i .letters) (c .with-letter .result) (home .result) in
+    (omega arith, more (i .inv .1) stays (c .with-letter .ensures))
 
 returns : tie.Need-returns Inv-loop μ-loop
 returns c =
     let s = c .before .before .before .before .before .before .before in
-    c .before .loop .inv .1 ∙ ap (λ (x : ℕ). asBits x (isInside (systemIn (s .args .table .now)) (s .args .q))) (le-antisymm (c .before .loop .inv .0) (c .loop-test .left))
+    let i = c .before .loop in
+    let e = le-antisymm (i .inv .0) (c .loop-test .left) in
+    i .inv .1 ∙ ap (λ (x : ℕ). asBits x (isInside (systemIn (s .args .table .now)) (s .args .q))) e
 
 pub inside-letters-spec : {M : Type 1} → statement M
 inside-letters-spec =

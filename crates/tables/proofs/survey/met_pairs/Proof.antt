@@ -25,7 +25,7 @@ abbrev μ-loop : tie.MeasureT-loop
 known : (c : tie.Start Inv-loop μ-loop) → Sized (c .args .table .now)
 known c = sized _ (c .pre .0)
 
-room : (c : tie.Start Inv-loop μ-loop) → c .args .q * tableOf (c .args .table .now) .letters ≤ tableOf (c .args .table .now) .states * tableOf (c .args .table .now) .letters
+room : (c : tie.Start Inv-loop μ-loop) → let t = tableOf (c .args .table .now) in c .args .q * t .letters ≤ t .states * t .letters
 room c = row-within _ _ (c .args .q) (c .pre .1)
 
 shared-slice-read-m : tie.Need-shared-slice-read-m Inv-loop μ-loop
@@ -68,7 +68,9 @@ add-kept-2 : tie.Need-add-kept-2 Inv-loop μ-loop
 add-kept-2 c = omega (arith, known (c .before .before .before .before .before), room (c .before .before .before .before .before))
 
 shared-slice-read-kept : tie.Need-shared-slice-read-kept Inv-loop μ-loop
-shared-slice-read-kept c = let s = c .before .before .before .before .before .before in marks-byte _ (s .pre .0) (s .args .q) _ (s .pre .1) (c .before .loop-test .taken)
+shared-slice-read-kept c =
+    let s = c .before .before .before .before .before .before in
+    omega (arith, marks-byte (s .args .table .now) (s .pre .0) (s .args .q) (c .before .before .loop .a) (s .pre .1) (c .before .loop-test .taken))
 
 kept-requires : tie.Need-kept-requires Inv-loop μ-loop
 kept-requires c κs = omega (arith, known (c .before .before .before .before .before .before))
@@ -83,16 +85,24 @@ loop-again : tie.Need-loop-again Inv-loop μ-loop
 loop-again c =
     let s = c .before .before .before .before .before .before .before in
     let bs = s .args .table .now in
+    let q = s .args .q in
+    let letters = s .args .letters in
     let i = c .before .before .before .loop in
     let l = c .before .before .loop-test .taken in
-    let small = lt-of-le-of-lt (c .kept .ensures .1) (counts-below bs (s .pre .0) (s .args .q) (i .a) (s .pre .1) l) in
-    (omega arith, or-lt (tableOf bs .pairs) (i .met) (c .kept .result) (i .inv .1) small, met-more (makesCount bs) (s .args .q) (s .args .letters) (i .a) (i .met) (c .kept .result) (i .inv .2) (λ x. c .kept .ensures .0 x ∙ ap (λ (y : Bool). bit (i .a) (s .args .letters) && y) (counts-byte bs (s .pre .0) x (s .args .q) (i .a) (s .pre .1) l)))
+    let small = lt-of-le-of-lt (c .kept .ensures .1) (counts-below bs (s .pre .0) q (i .a) (s .pre .1) l) in
+    let more = met-more (makesCount bs) q letters (i .a) (i .met) (c .kept .result) (i .inv .2) in
+    let meets = more (λ x. c .kept .ensures .0 x ∙ ap (λ (y : Bool). bit (i .a) letters && y) (counts-byte bs (s .pre .0) x q (i .a) (s .pre .1) l)) in
+    (omega arith, or-lt (tableOf bs .pairs) (i .met) (c .kept .result) (i .inv .1) small, meets)
 
 returns : tie.Need-returns Inv-loop μ-loop
 returns c =
     let s = c .before .before .before .before .before in
+    let bs = s .args .table .now in
+    let q = s .args .q in
+    let letters = s .args .letters in
     let i = c .before .loop in
-    (λ x. i .inv .2 x ∙ ap (λ (y : ℕ). anyBelow y (λ a. bit a (s .args .letters) && makesCount (s .args .table .now) x (s .args .q) a)) (le-antisymm (i .inv .0) (c .loop-test .left)), i .inv .1)
+    let e = le-antisymm (i .inv .0) (c .loop-test .left) in
+    (λ x. i .inv .2 x ∙ ap (λ (y : ℕ). anyBelow y (λ a. bit a letters && makesCount bs x q a)) e, i .inv .1)
 
 pub met-pairs-spec : {M : Type 1} → statement M
 met-pairs-spec =

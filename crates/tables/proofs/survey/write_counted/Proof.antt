@@ -36,7 +36,8 @@ spread-requires : tie.Need-spread-requires
 spread-requires c κs =
     let s = c .before .before .before .before .before .before .before .before .before .before in
     let bs = s .args .table .now in
-    (s .pre .1 .enough, s .pre .3, λ q l. rw (c .before .before .before .before .gather .kept .1 .1 .1 .0, s .pre .1 .entry q l) (omega (arith, component-below (systemIn bs) q l, sized bs (s .pre .0))))
+    let size = c .before .before .before .before .gather .kept .1 .1 .1 .0 in
+    (s .pre .1 .enough, s .pre .3, λ q l. rw (size, s .pre .1 .entry q l) (omega (arith, component-below (systemIn bs) q l, sized bs (s .pre .0))))
 
 same-length : tie.Need-same-length
 same-length c = search needs
@@ -46,7 +47,9 @@ returns c =
     let s = c .before .before .before .before .before .before .before .before .before .before .before .before .before in
     let bs = s .args .table .now in
     let g = c .before .before .before .before .before .before .before .gather in
-    c .before .before .spread .ensures ∙ ap (λ (xs : List ℕ). over xs (s .args .out .now)) (tabulate-same _ _ (statesOf bs) 0 (λ q l u. gathered-met (systemIn bs) (makesCount bs) (tableOf bs .pairs) (s .args .components .now) (g .last .1 .1 .1 .0) (s .pre .1) (g .ensures) q (omega arith)))
+    let met = gathered-met (systemIn bs) (makesCount bs) (tableOf bs .pairs) (s .args .components .now) (g .last .1 .1 .1 .0) (s .pre .1) (g .ensures) in
+    let same = tabulate-same _ _ (statesOf bs) 0 (λ q l u. met q (omega arith)) in
+    c .before .before .spread .ensures ∙ ap (λ (xs : List ℕ). over xs (s .args .out .now)) same
 
 pub write-counted-spec : {M : Type 1} → statement M
 write-counted-spec =

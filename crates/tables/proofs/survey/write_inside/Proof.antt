@@ -45,13 +45,19 @@ loop-less : tie.Need-loop-less Inv-loop μ-loop
 loop-less c = omega arith
 
 loop-again : tie.Need-loop-again Inv-loop μ-loop
-loop-again c = let i = c .before .before .loop in (omega arith, filled-more _ _ _ (i .q) (c .inside-letters .result) (omega (arith, (c .before .before .before .before .before .before .before) .pre .2)) (c .inside-letters .ensures) (i .inv .1))
+loop-again c =
+    let s = c .before .before .before .before .before .before .before in
+    let i = c .before .before .loop in
+    (omega arith, filled-more _ _ _ (i .q) (c .inside-letters .result) (omega (arith, s .pre .2)) (c .inside-letters .ensures) (i .inv .1))
 
 same-length : tie.Need-same-length Inv-loop μ-loop
 same-length c = c .before .loop .inv .1 .size
 
 returns : tie.Need-returns Inv-loop μ-loop
-returns c = filled-over _ _ _ _ ((c .before .before .before .before .before .before) .pre .2) (rw (le-antisymm (c .before .loop .inv .0) (c .loop-test .left)) at (c .before .loop .inv .1))
+returns c =
+    let s = c .before .before .before .before .before .before in
+    let i = c .before .loop in
+    filled-over _ _ _ _ (s .pre .2) (rw (le-antisymm (i .inv .0) (c .loop-test .left)) at (i .inv .1))
 
 pub write-inside-spec : {M : Type 1} → statement M
 write-inside-spec =
