@@ -1,4 +1,7 @@
--- From what a call found to what it promises: refused by the table, an array too short, or done.
+-- From what a call found to what it promises.
+--     components-refused, survey-refused     the table's own refusal
+--     components-short, survey-short         an array too short
+--     components-found, surveyed             done
 use mathlib.Core.Path.{_≡_, refl}
 use mathlib.Core.Bool.{true, false, _||_}
 use mathlib.Core.List.{List}
