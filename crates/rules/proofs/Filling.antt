@@ -36,16 +36,16 @@ filled-more P old new p v l h f =
 
 -- the front of an array, and what stands behind it
 module _ (g : ℕ → ℕ) (n : ℕ) (old : List ℕ) where
-  len : length (tabulate n 0 g) ≡ n
-  len = tabulate-length g n 0
+  front-length : length (tabulate n 0 g) ≡ n
+  front-length = tabulate-length g n 0
 
   pub over-at : (i : ℕ) → i < n → getD (over (tabulate n 0 g) old) i 0 ≡ g i
   over-at i h =
-      List·getD-append (tabulate n 0 g) (drop (length (tabulate n 0 g)) old) 0 i (omega (arith, len)) ∙ tabulate-at g n 0 i 0 h ∙ ap g (omega arith)
+      List·getD-append (tabulate n 0 g) (drop (length (tabulate n 0 g)) old) 0 i (omega (arith, front-length)) ∙ tabulate-at g n 0 i 0 h ∙ ap g (omega arith)
 
   over-behind : (i : ℕ) → n ≤ i → getD (over (tabulate n 0 g) old) i 0 ≡ getD old i 0
   over-behind i h =
-      let e : i ≡ length (tabulate n 0 g) + (i - n) = omega (arith, len) in
+      let e : i ≡ length (tabulate n 0 g) + (i - n) = omega (arith, front-length) in
       let d : length (tabulate n 0 g) + (i - n) ≡ i = sym e in
       ap (λ (x : ℕ). getD (over (tabulate n 0 g) old) x 0) e
       ∙ getD-append-add (tabulate n 0 g) (drop (length (tabulate n 0 g)) old) (i - n) 0
@@ -53,7 +53,7 @@ module _ (g : ℕ → ℕ) (n : ℕ) (old : List ℕ) where
 
   pub filled-over : (new : List ℕ) → n ≤ length old → Filled (λ i v. v ≡ g i) old new n → new ≡ over (tabulate n 0 g) old
   filled-over new l f =
-      ext-getD 0 new (over (tabulate n 0 g) old) (simp (length-append, length-drop) (omega (arith, len, f .size)))
+      ext-getD 0 new (over (tabulate n 0 g) old) (simp (length-append, length-drop) (omega (arith, front-length, f .size)))
       (λ i b. by (ltb i n) (λ e. f .done i (ltb-true i n e) ∙ sym (over-at i (ltb-true i n e))) (λ e. f .rest i (ltb-false i n e) ∙ sym (over-behind i (ltb-false i n e))))
 
 pub zeros-at : (n i : ℕ) → getD {A = ℕ} (replicate n 0) i 0 ≡ 0

@@ -8,8 +8,8 @@
 --     component-together, component-least, component-same     componentOf is the smallest state of the component, and the same for all of it
 --     together-chains, component-is     the first state with a chain there and back is the smallest
 --     component-met, component-self     the same, read off any relation that holds the chains
+--     together-component, inside-component, met-component     what shares a component, is inside and is met, by the numbers of components alone
 --     inside-of-return                  a transition with a way back is inside
---     together-component, inside-component, met-component     the same by the numbers of components alone
 --     met-view, met-same                what some inside transition of a component meets, and that it is the same for the whole component
 use mathlib.Core.Path.{_≡_, refl, sym, _∙_}
 use mathlib.Core.Logic.{_↔_}

@@ -8,7 +8,7 @@ use mathlib.Core.Path.{_≡_, refl}
 use mathlib.Core.Bool.{Bool, true, false, _||_}
 use mathlib.Core.List.{List}
 use Prim.Native.Nat.{ℕ, zero, suc, _*_, _≤_, _<_}
-use native.Mathlib.Nat.{le-antisymm}
+use native.Mathlib.Nat.{le-antisymm, mul-le-mul}
 use native.Mathlib.Omega.{arith}
 use lib.Dec.{eqb, ltb, leb}
 use lib.ListN.{length, take}
@@ -42,6 +42,7 @@ pub record TakenSizes (n m k : ℕ) : Type 0 where
   pub some-letters : 1 ≤ m
   pub most-letters : m ≤ maxLetters
   pub most-pairs : k ≤ maxPairs
+  pub most-cells : n * m ≤ maxStates * maxLetters
 
 pub taken-sizes : (n m k : ℕ) → sizesFault n m k ≡ false → TakenSizes n m k
 taken-sizes n m k h =
@@ -51,12 +52,15 @@ taken-sizes n m k h =
     let d = or-none (ltb maxLetters m) (ltb maxPairs k) (c .1) in
     let n0 = eqb-false n 0 (a .0) in
     let m0 = eqb-false m 0 (c .0) in
+    let states = ltb-false maxStates n (b .0) in
+    let letters = ltb-false maxLetters m (d .0) in
     record {
       some-states = omega arith;
-      most-states = ltb-false maxStates n (b .0);
+      most-states = states;
       some-letters = omega arith;
-      most-letters = ltb-false maxLetters m (d .0);
+      most-letters = letters;
       most-pairs = ltb-false maxPairs k (d .1);
+      most-cells = mul-le-mul states letters;
     }
 
 -- ---- a table that is taken

@@ -1,10 +1,9 @@
 -- Where the cells of a table that is taken stand among its bytes.
---     sized              the sizes of a table that is taken
---     cell-within        a cell's number is below the number of cells
---     row-within         the cells before a row
---     cell-byte, target-byte        the byte that says where q goes by a
---     marks-byte, counts-byte       the byte whose bits say which pairs the transition of q by a makes count
---     counts-below       it has no bit above pair k
+--     cell-within, row-within       a cell's number is below the number of cells; the cells before a row
+--     targetAt, target-within, target-byte         the place of the byte that says where q goes by a, and that byte
+--     requiredAt, required-within, counts-byte     the place of the required marks of the transition of q by a, whose bits say which pairs
+--                                                  it makes count
+--     counts-below                  they have no bit above pair k
 use mathlib.Core.Path.{_≡_, refl, _∙_}
 use mathlib.Core.Bool.{false, not, _&&_}
 use mathlib.Core.List.{List, [], _∷_}
@@ -16,12 +15,11 @@ use lib.ListN.{length, getD, drop, length-take, length-drop}
 use lib.Seq.{getD-take, getD-drop}
 use borrow.Author.Tests.{ltb-true, not-false}
 use Rattle.rules.specs.Basics.{bit}
-use Rattle.rules.specs.Limits.{headerSize, maxStates, maxLetters, maxPairs, noState}
+use Rattle.rules.specs.Limits.{headerSize, noState}
 use Rattle.rules.specs.Systems.{cell}
-use Rattle.rules.specs.Tables.{tableOf, tableFault, targetOf, markFault, marksFault, countsBy}
+use Rattle.rules.specs.Tables.{Table, tableOf, tableFault, targetOf, markFault, marksFault, countsBy}
 use Rattle.rules.proofs.Bools.{or-none, and-parts}
 use Rattle.rules.proofs.Refusals.{taken-table}
-use Rattle.tables.proofs.Refused.{cells-most}
 
 pub cell-within : (n m q a : ℕ) → q < n → a < m → q * m + a < n * m
 cell-within n m q a l r = let h : suc q * m ≤ n * m = mul-le-mul l (le-refl m) in omega (arith, suc-mul q m)
@@ -48,63 +46,47 @@ marks-below k (x ∷ ts) ms (suc c) h l =
     let e : 2 + suc (2 * c) ≡ suc (2 * suc c) = omega arith in
     rw (getD-drop 2 ms (suc (2 * c)) 0, e) at (marks-below k ts (drop 2 ms) c (a .1) (omega arith))
 
--- the sizes of a table that is taken
-pub record Sized (bs : List ℕ) : Type 0 where
-  pub whole : length bs ≡ headerSize + 3 * (tableOf bs .states * tableOf bs .letters)
-  pub states : tableOf bs .states ≤ maxStates
-  pub letters : tableOf bs .letters ≤ maxLetters
-  pub pairs : tableOf bs .pairs ≤ maxPairs
-  pub cells : tableOf bs .states * tableOf bs .letters ≤ 1024
+module _ (bs : List ℕ) where
+  abbrev t : Table
+  t = tableOf bs
 
-module _ (bs : List ℕ) (taken : tableFault bs ≡ 0) where
-  pub sized : Sized bs
-  sized =
-      let t = taken-table bs taken in
-      record {
-        whole = t .exact;
-        states = t .sizes .most-states;
-        letters = t .sizes .most-letters;
-        pairs = t .sizes .most-pairs;
-        cells = cells-most _ _ (t .sizes .most-states) (t .sizes .most-letters);
-      }
+  abbrev cells : ℕ
+  cells = t .states * t .letters
 
-  pub cell-byte : (q a : ℕ) → q < tableOf bs .states → a < tableOf bs .letters → headerSize + q * tableOf bs .letters + a < length bs
-  cell-byte q a l r = omega (arith, cell-within (tableOf bs .states) (tableOf bs .letters) q a l r, sized .whole)
+  -- the places of the target and of the required marks of the transition of q by a
+  abbrev pub targetAt : ℕ → ℕ → ℕ
+  targetAt q a = headerSize + q * t .letters + a
 
-  pub target-byte : (q a : ℕ) → q < tableOf bs .states → a < tableOf bs .letters
-      → targetOf (tableOf bs) q a ≡ getD bs (headerSize + q * tableOf bs .letters + a) 0
-  target-byte q a l r =
-      let n = tableOf bs .states in
-      let m = tableOf bs .letters in
-      let e : headerSize + cell m q a ≡ headerSize + q * m + a = omega arith in
-      getD-take (n * m) (drop headerSize bs) (cell m q a) n (cell-within n m q a l r) ∙ getD-drop headerSize bs (cell m q a) n
-      ∙ rw e (getD-any bs (headerSize + q * m + a) n 0 (cell-byte q a l r))
+  abbrev pub requiredAt : ℕ → ℕ → ℕ
+  requiredAt q a = headerSize + cells + 2 * (q * t .letters) + (2 * a + 1)
 
-  pub marks-byte : (q a : ℕ) → q < tableOf bs .states → a < tableOf bs .letters
-      → headerSize + tableOf bs .states * tableOf bs .letters + 2 * (q * tableOf bs .letters) + (2 * a + 1) < length bs
-  marks-byte q a l r = omega (arith, cell-within (tableOf bs .states) (tableOf bs .letters) q a l r, sized .whole)
+  module _ (taken : tableFault bs ≡ 0) (q a : ℕ) (l : q < t .states) (r : a < t .letters) where
+    within : cell (t .letters) q a < cells
+    within = cell-within (t .states) (t .letters) q a l r
 
-  required-byte : (q a : ℕ) → q < tableOf bs .states → a < tableOf bs .letters
-      → getD (tableOf bs .marks) (suc (2 * cell (tableOf bs .letters) q a)) 0
-      ≡ getD bs (headerSize + tableOf bs .states * tableOf bs .letters + 2 * (q * tableOf bs .letters) + (2 * a + 1)) 0
-  required-byte q a l r =
-      let n = tableOf bs .states in
-      let m = tableOf bs .letters in
-      let h = cell-within n m q a l r in
-      let e : headerSize + n * m + suc (2 * cell m q a) ≡ headerSize + n * m + 2 * (q * m) + (2 * a + 1) = omega arith in
-      getD-take (2 * (n * m)) (drop (headerSize + n * m) bs) (suc (2 * cell m q a)) 0 (omega arith)
-      ∙ getD-drop (headerSize + n * m) bs (suc (2 * cell m q a)) 0 ∙ rw e
+    pub target-within : targetAt q a < length bs
+    target-within = omega (arith, within, taken-table bs taken .exact)
 
-  pub counts-byte : (i q a : ℕ) → q < tableOf bs .states → a < tableOf bs .letters
-      → bit i (getD bs (headerSize + tableOf bs .states * tableOf bs .letters + 2 * (q * tableOf bs .letters) + (2 * a + 1)) 0)
-      ≡ countsBy (tableOf bs) (suc i) q a
-  counts-byte i q a l r = let e : suc i - 1 ≡ i = omega arith in rw (e, required-byte q a l r)
+    pub target-byte : targetOf t q a ≡ getD bs (targetAt q a) 0
+    target-byte =
+        let c = cell (t .letters) q a in
+        let e : headerSize + c ≡ targetAt q a = omega arith in
+        getD-take cells (drop headerSize bs) c (t .states) within ∙ getD-drop headerSize bs c (t .states)
+        ∙ rw e (getD-any bs (targetAt q a) (t .states) 0 target-within)
 
-  pub counts-below : (q a : ℕ) → q < tableOf bs .states → a < tableOf bs .letters
-      → getD bs (headerSize + tableOf bs .states * tableOf bs .letters + 2 * (q * tableOf bs .letters) + (2 * a + 1)) 0 < 2 ^ tableOf bs .pairs
-  counts-below q a l r =
-      let n = tableOf bs .states in
-      let m = tableOf bs .letters in
-      let h = cell-within n m q a l r in
-      rw (required-byte q a l r) at
-      (marks-below (tableOf bs .pairs) (tableOf bs .targets) (tableOf bs .marks) (cell m q a) (taken-table bs taken .marks-taken) (simp (length-take, length-drop) (omega (arith, sized .whole))))
+    pub required-within : requiredAt q a < length bs
+    required-within = omega (arith, within, taken-table bs taken .exact)
+
+    required-byte : getD (t .marks) (suc (2 * cell (t .letters) q a)) 0 ≡ getD bs (requiredAt q a) 0
+    required-byte =
+        let c = suc (2 * cell (t .letters) q a) in
+        let e : headerSize + cells + c ≡ requiredAt q a = omega arith in
+        getD-take (2 * cells) (drop (headerSize + cells) bs) c 0 (omega (arith, within)) ∙ getD-drop (headerSize + cells) bs c 0 ∙ rw e
+
+    pub counts-byte : (i : ℕ) → bit i (getD bs (requiredAt q a) 0) ≡ countsBy t (suc i) q a
+    counts-byte i = let e : suc i - 1 ≡ i = omega arith in rw (e, required-byte)
+
+    pub counts-below : getD bs (requiredAt q a) 0 < 2 ^ t .pairs
+    counts-below =
+        let size : cell (t .letters) q a < length (t .targets) = simp (length-take, length-drop) (omega (arith, within, taken-table bs taken .exact)) in
+        rw required-byte at (marks-below (t .pairs) (t .targets) (t .marks) (cell (t .letters) q a) (taken-table bs taken .marks-taken) size)

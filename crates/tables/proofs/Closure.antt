@@ -14,7 +14,7 @@ use borrow.Author.Tests.{lt-ltb}
 use Rattle.rules.specs.Basics.{anyBelow, bit}
 use Rattle.rules.specs.Systems.{System, linked, via}
 use Rattle.rules.proofs.Reach.{via-stage}
-use Rattle.tables.specs.Words.{HoldsOf, has, Holds}
+use Rattle.tables.specs.Words.{HoldsOf, rowHas, Holds}
 use Rattle.rules.proofs.Filling.{Filled}
 
 abbrev pub LinksBelow : System → ℕ → ℕ → ℕ → Type 0
@@ -34,4 +34,4 @@ Joined k through old new = (q : ℕ) → bit q new ≡ bit q old || (bit k old &
 
 pub stage-done : (e : ℕ → ℕ → Bool) (n k : ℕ) (old new : List ℕ) → k < n
     → Filled (λ p v. Joined k (getD old k 0) (getD old p 0) v) old new n → Holds n (via e k) old → Holds n (via e (k + 1)) new
-stage-done e n k old new l f h = rw (add-one k) (via-stage e n k (has old) (has new) l h (λ p lp q lq. f .done p lp q))
+stage-done e n k old new l f h = rw (add-one k) (via-stage e n k (rowHas old) (rowHas new) l h (λ p lp q lq. f .done p lp q))

@@ -1,23 +1,18 @@
 -- The refusals of a table in their order: each is given where its test is the first that holds.
---     cells-most                     sizes that are taken have at most 1,024 cells
 --     targets-part, marks-part       the parts of the bytes that the cells are; parts-match: two marks for each target
 --     header-short .. cells-judged   one law for each test, from what the tests before it left
 use mathlib.Core.Path.{_≡_}
 use mathlib.Core.Bool.{true, false}
 use mathlib.Core.List.{List}
 use Prim.Native.Nat.{ℕ, _+_, _-_, _*_, _≤_}
-use native.Mathlib.Nat.{mul-le-mul}
 use native.Mathlib.Omega.{arith}
 use lib.Dec.{ltb, leb}
 use lib.ListN.{length, take, drop, length-take, length-drop}
 use Rattle.rules.specs.Basics.{firstOf, when}
-use Rattle.rules.specs.Limits.{headerSize, maxStates, maxLetters, noState}
+use Rattle.rules.specs.Limits.{headerSize, noState}
 use Rattle.rules.specs.Refusals as Refusal
 use Rattle.rules.specs.Tables.{Table, tableOf, tableFault, sizesFault, tableLength, targetFault, marksFault}
 use Rattle.rules.specs.Says.{CheckSays}
-
-pub cells-most : (n m : ℕ) → n ≤ maxStates → m ≤ maxLetters → n * m ≤ 1024
-cells-most n m a b = mul-le-mul a b
 
 module _ (bs : List ℕ) where
   abbrev t : Table

@@ -8,7 +8,7 @@
 use mathlib.Core.Path.{_≡_, refl, sym, _∙_}
 use mathlib.Core.Bool.{Bool, _&&_, or-comm}
 use mathlib.Core.List.{List}
-use Prim.Native.Nat.{ℕ, _+_, _*_, _^_, _<_, _≤_}
+use Prim.Native.Nat.{ℕ, _+_, _^_, _<_, _≤_}
 use native.Mathlib.Nat.{lt-of-le-of-lt}
 use native.Mathlib.Numerals.{add-one}
 use native.Mathlib.Omega.{arith}
@@ -20,7 +20,6 @@ use lib.Seq.{getD-set-same, getD-set-other}
 use borrow.Author.Tests.{eqb-true, eqb-false, eq-eqb, ne-eqb, ltb-true}
 use Rattle.rules.specs.Basics.{bit, anyBelow, tabulate}
 use Rattle.rules.specs.Says.{over}
-use Rattle.rules.specs.Limits.{headerSize}
 use Rattle.rules.specs.Tables.{tableOf}
 use Rattle.rules.specs.Systems.{System, isInside, componentOf, metWithin}
 use Rattle.rules.proofs.Bools.{by}
@@ -28,7 +27,7 @@ use Rattle.rules.proofs.Sets.{below-same}
 use Rattle.rules.proofs.Reach.{together-refl, component-least, inside-component, met-component}
 use Rattle.rules.specs.Basics.{asBits}
 use Rattle.tables.specs.Parts.{Taken, statesOf, systemIn, Listed, Gathered}
-use Rattle.tables.proofs.Cells.{target-byte}
+use Rattle.tables.proofs.Cells.{targetAt, target-byte}
 use Rattle.rules.proofs.Filling.{over-at}
 use Rattle.rules.proofs.Bits.{bit-or, bit-none, as-bits-at, bits-are}
 
@@ -110,7 +109,7 @@ module _ (s : System) where
 -- of a table that is taken, from its bytes
 pub target-inside : (bs components : List ℕ) → Taken bs → Listed (statesOf bs) (componentOf (systemIn bs)) components
     → (q a : ℕ) → q < statesOf bs → a < tableOf bs .letters → (stays : Bool)
-    → stays ≡ (let target = getD bs (headerSize + q * tableOf bs .letters + a) 0 in ltb target (statesOf bs) && eqb (getD components target 0) (getD components q 0))
+    → stays ≡ (let target = getD bs (targetAt bs q a) 0 in ltb target (statesOf bs) && eqb (getD components target 0) (getD components q 0))
     → stays ≡ isInside (systemIn bs) q a
 target-inside bs components taken f q a l r stays e =
     e ∙ (rw (target-byte bs taken q a l r) at (home-inside (systemIn bs) components f q a l))

@@ -2,7 +2,7 @@
 use mathlib.Core.Path.{_≡_, sym, _∙_}
 use mathlib.Core.Bool.{false}
 use mathlib.Core.List.{List}
-use Prim.Native.Nat.{ℕ, _*_, _≤_}
+use Prim.Native.Nat.{ℕ, _≤_}
 use native.Mathlib.Omega.{arith}
 use borrow.Author.Needs.{needs}
 use borrow.Author.Tests.{lt-ltb, le-ltb, le-leb, lt-leb}
@@ -14,7 +14,7 @@ use Rattle.rules.specs.Refusals as Refusal
 use Rattle.rules.specs.Tables.{tableOf, sizesFault, tableLength}
 use Rattle.rules.specs.Says.{CheckSays}
 use Rattle.rules.proofs.Refusals.{TakenSizes, taken-sizes}
-use Rattle.tables.proofs.Refused.{cells-most, targets-part, marks-part, parts-match, header-short, sizes-bad, cells-short, cells-long, start-bad, cells-judged}
+use Rattle.tables.proofs.Refused.{targets-part, marks-part, parts-match, header-short, sizes-bad, cells-short, cells-long, start-bad, cells-judged}
 use Rattle.tables.proofs.check_table.Statement.{statement}
 use Rattle.tables.proofs.check_table.Tie as tie
 
@@ -34,9 +34,6 @@ module _ (c : tie.Else2) where
 
   sizes-taken : TakenSizes (tableOf bytes .states) (tableOf bytes .letters) (tableOf bytes .pairs)
   sizes-taken = taken-sizes _ _ _ sizes
-
-  cells-taken : tableOf bytes .states * tableOf bytes .letters ≤ 1024
-  cells-taken = cells-most _ _ (sizes-taken .most-states) (sizes-taken .most-letters)
 
 enough : (c : tie.Else3) → let bs = bytes (c .before) in ltb (length bs) (tableLength (tableOf bs .states) (tableOf bs .letters)) ≡ false
 enough c = le-ltb _ _ (c .if3 .left)
@@ -82,13 +79,13 @@ cast-cells-2 : tie.Need-cast-cells-2
 cast-cells-2 c = omega (arith, sizes-taken c)
 
 mul-cells : tie.Need-mul-cells
-mul-cells c = omega (arith, cells-taken c)
+mul-cells c = omega (arith, sizes-taken c)
 
 mul-length : tie.Need-mul-length
-mul-length c = omega (arith, cells-taken c)
+mul-length c = omega (arith, sizes-taken c)
 
 add-length : tie.Need-add-length
-add-length c = omega (arith, cells-taken c)
+add-length c = omega (arith, sizes-taken c)
 
 returns-3 : tie.Need-returns-3
 returns-3 c = cells-short _ (header (c .before)) (sizes (c .before)) (lt-ltb _ _ (c .if3 .taken))

@@ -3,7 +3,7 @@ use mathlib.Core.Path.{_≡_, sym, _∙_}
 use native.Mathlib.Omega.{arith}
 use borrow.Author.Needs.{needs}
 use Rattle.rules.specs.Tables.{tableFault}
-use Rattle.tables.proofs.Cells.{sized}
+use Rattle.rules.proofs.Refusals.{taken-table}
 use Rattle.tables.proofs.Promises.{components-refused, components-short, components-found}
 use Rattle.tables.proofs.find_components.Statement.{statement}
 use Rattle.tables.proofs.find_components.Tie as tie
@@ -18,10 +18,10 @@ returns : tie.Need-returns
 returns c = components-refused _ _ _ (c .before .check-table .ensures) (c .if1 .taken)
 
 shared-slice-read-if2 : tie.Need-shared-slice-read-if2
-shared-slice-read-if2 c = omega (arith, sized _ (taken (c .before)))
+shared-slice-read-if2 c = omega (arith, taken-table _ (taken (c .before)))
 
 cast-if2 : tie.Need-cast-if2
-cast-if2 c = omega (arith, sized _ (taken (c .before)))
+cast-if2 c = omega (arith, taken-table _ (taken (c .before)))
 
 returns-2 : tie.Need-returns-2
 returns-2 c = components-short _ (taken (c .before .before)) _ (c .if2 .taken)

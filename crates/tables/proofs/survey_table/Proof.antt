@@ -12,7 +12,7 @@ use Rattle.rules.specs.Tables.{tableOf}
 use Rattle.rules.proofs.Bools.{or-none}
 use Rattle.tables.specs.Surveys.{insideLetters}
 use Rattle.tables.specs.Parts.{Taken, statesOf, systemIn, Listed}
-use Rattle.tables.proofs.Cells.{sized}
+use Rattle.rules.proofs.Refusals.{taken-table}
 use Rattle.tables.proofs.Surveying.{listed}
 use Rattle.tables.proofs.Promises.{survey-refused, survey-short, surveyed}
 use Rattle.tables.proofs.survey_table.Statement.{statement}
@@ -44,7 +44,7 @@ module _ (c : tie.After-write-components) where
 
   numbers : Listed (statesOf bytes) (componentOf (systemIn bytes)) (c .write-components .last .1 .0)
   numbers =
-      let enough : statesOf bytes ≤ length (c .write-components .last .1 .0) = omega (arith, c .write-components .kept .1 .0, sized bytes is-taken) in
+      let enough : statesOf bytes ≤ length (c .write-components .last .1 .0) = omega (arith, c .write-components .kept .1 .0, taken-table bytes is-taken) in
       listed (statesOf bytes) (componentOf (systemIn bytes)) _ (c .write-components .last .1 .0) enough (c .write-components .ensures)
 
 -- the letters that stay inside are written
@@ -63,10 +63,10 @@ returns : tie.Need-returns
 returns c = survey-refused _ _ _ _ (c .before .check-table .ensures) (c .if1 .taken)
 
 shared-slice-read-n : tie.Need-shared-slice-read-n
-shared-slice-read-n c = omega (arith, sized _ (taken (c .before)))
+shared-slice-read-n c = omega (arith, taken-table _ (taken (c .before)))
 
 cast-n : tie.Need-cast-n
-cast-n c = omega (arith, sized _ (taken (c .before)))
+cast-n c = omega (arith, taken-table _ (taken (c .before)))
 
 returns-2 : tie.Need-returns-2
 returns-2 c = survey-short _ (taken (c .before .before)) _ _ (c .if2 .taken)
@@ -75,7 +75,7 @@ slice-aggregate-write-components : tie.Need-slice-aggregate-write-components
 slice-aggregate-write-components c = search needs
 
 write-components-requires : tie.Need-write-components-requires
-write-components-requires c κs = (taken (c .before .before .before), sized _ (taken (c .before .before .before)) .states)
+write-components-requires c κs = (taken (c .before .before .before), taken-table _ (taken (c .before .before .before)) .sizes .most-states)
 
 slice-aggregate-write-inside : tie.Need-slice-aggregate-write-inside
 slice-aggregate-write-inside c = search needs

@@ -7,12 +7,12 @@ use native.Mathlib.Omega.{arith}
 use borrow.Author.Needs.{needs}
 use borrow.Author.Count.{below-none, below-more}
 use Rattle.rules.proofs.Reach.{component-met, component-self}
-use Rattle.tables.specs.Words.{has}
+use Rattle.tables.specs.Words.{rowHas}
 use Rattle.tables.proofs.reach.component_of.Statement.{statement}
 use Rattle.tables.proofs.reach.component_of.Tie as tie
 
 abbrev Inv-loop : tie.InvT-loop
-Inv-loop rows q p₀ p = (p ≤ q) × ((i : ℕ) → i < p → has rows q i && has rows i q ≡ false)
+Inv-loop rows q p₀ p = (p ≤ q) × ((i : ℕ) → i < p → rowHas rows q i && rowHas rows i q ≡ false)
 
 abbrev μ-loop : tie.MeasureT-loop
 μ-loop rows q p₀ p = q - p
@@ -25,7 +25,7 @@ module _ (c : tie.After-has2 Inv-loop μ-loop) where
   abbrev turn : tie.At-loop Inv-loop μ-loop
   turn = c .before .before .before .before .before
 
-  tested : has (start .args .rows .now) (start .args .q) (turn .loop .p) && has (start .args .rows .now) (turn .loop .p) (start .args .q)
+  tested : rowHas (start .args .rows .now) (start .args .q) (turn .loop .p) && rowHas (start .args .rows .now) (turn .loop .p) (start .args .q)
       ≡ c .before .before .has .result && c .has2 .result
   tested = ap₂ (λ (x y : Bool). x && y) (sym (c .before .before .has .ensures)) (sym (c .has2 .ensures))
 
@@ -56,7 +56,7 @@ cast-result c = omega arith
 returns : tie.Need-returns Inv-loop μ-loop
 returns c =
     λ s l h. let turn-test = c .before .before .before .before .before .loop-test .taken in
-    component-met s (has (start (c .before) .args .rows .now)) h _ l _ turn-test (tested (c .before) ∙ c .if1 .taken) (turn (c .before) .loop .inv .1)
+    component-met s (rowHas (start (c .before) .args .rows .now)) h _ l _ turn-test (tested (c .before) ∙ c .if1 .taken) (turn (c .before) .loop .inv .1)
 
 add-p : tie.Need-add-p Inv-loop μ-loop
 add-p c = omega arith
@@ -73,7 +73,7 @@ cast-result-2 c = omega arith
 returns-2 : tie.Need-returns-2 Inv-loop μ-loop
 returns-2 c =
     λ s l h. let none = rw (le-antisymm (c .before .loop .inv .0) (c .loop-test .left)) at (c .before .loop .inv .1) in
-    component-self s (has (c .before .before .before .args .rows .now)) h _ l none
+    component-self s (rowHas (c .before .before .before .args .rows .now)) h _ l none
 
 pub component-of-spec : {M : Type 1} → statement M
 component-of-spec =

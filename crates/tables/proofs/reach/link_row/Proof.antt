@@ -6,7 +6,8 @@ use borrow.Author.Needs.{needs}
 use Rattle.rules.specs.Tables.{tableOf}
 use Rattle.tables.specs.Parts.{systemIn}
 use Rattle.rules.proofs.Bits.{bit-none}
-use Rattle.tables.proofs.Cells.{Sized, sized, row-within, cell-byte, target-byte}
+use Rattle.rules.proofs.Refusals.{TakenTable, taken-table}
+use Rattle.tables.proofs.Cells.{row-within, target-within, target-byte}
 use Rattle.tables.proofs.Closure.{LinksBelow, links-more, links-all}
 use Rattle.tables.proofs.reach.link_row.Statement.{statement}
 use Rattle.tables.proofs.reach.link_row.Tie as tie
@@ -17,8 +18,8 @@ Inv-loop table q n m first set₀ a₀ set a = (a ≤ tableOf table .letters) ×
 abbrev μ-loop : tie.MeasureT-loop
 μ-loop table q n m first set₀ a₀ set a = m - a
 
-known : (c : tie.Start Inv-loop μ-loop) → Sized (c .args .table .now)
-known c = sized _ (c .pre .0)
+known : (c : tie.Start Inv-loop μ-loop) → TakenTable (c .args .table .now)
+known c = taken-table _ (c .pre .0)
 
 row-fits : (c : tie.Start Inv-loop μ-loop)
     → let t = tableOf (c .args .table .now) in c .args .q * t .letters ≤ t .states * t .letters
@@ -47,10 +48,10 @@ add-with-target c = omega (arith, row-fits (c .before .before .before .before .b
 
 shared-slice-read-with-target : tie.Need-shared-slice-read-with-target Inv-loop μ-loop
 shared-slice-read-with-target c =
-    let s = c .before .before .before .before .before .before in cell-byte _ (s .pre .0) (s .args .q) _ (s .pre .1) (c .before .loop-test .taken)
+    let s = c .before .before .before .before .before .before in target-within _ (s .pre .0) (s .args .q) _ (s .pre .1) (c .before .loop-test .taken)
 
 with-target-requires : tie.Need-with-target-requires Inv-loop μ-loop
-with-target-requires c κs = known (c .before .before .before .before .before .before) .states
+with-target-requires c κs = known (c .before .before .before .before .before .before) .sizes .most-states
 
 add-a : tie.Need-add-a Inv-loop μ-loop
 add-a c = omega (arith, known (c .before .before .before .before .before .before .before))

@@ -5,7 +5,7 @@ use borrow.Author.Needs.{needs}
 use Rattle.rules.specs.Systems.{linked}
 use Rattle.tables.specs.Words.{HoldsOf}
 use Rattle.tables.specs.Parts.{statesOf, systemIn}
-use Rattle.tables.proofs.Cells.{Sized, sized}
+use Rattle.rules.proofs.Refusals.{TakenTable, taken-table}
 use Rattle.rules.proofs.Filling.{Filled, filled-none, filled-more}
 use Rattle.tables.proofs.reach.link_rows.Statement.{statement}
 use Rattle.tables.proofs.reach.link_rows.Tie as tie
@@ -16,8 +16,8 @@ Inv-loop table rows₀ n q₀ rows q = (q ≤ n) × Filled (λ i v. HoldsOf (sta
 abbrev μ-loop : tie.MeasureT-loop
 μ-loop table rows₀ n q₀ rows q = n - q
 
-known : (c : tie.Start Inv-loop μ-loop) → Sized (c .args .table .now)
-known c = sized _ (c .pre .0)
+known : (c : tie.Start Inv-loop μ-loop) → TakenTable (c .args .table .now)
+known c = taken-table _ (c .pre .0)
 
 shared-slice-read-n : tie.Need-shared-slice-read-n Inv-loop μ-loop
 shared-slice-read-n c = omega (arith, known (c .before .before .before))

@@ -4,12 +4,12 @@ use native.Mathlib.Omega.{arith}
 use borrow.Author.Needs.{needs}
 use Rattle.rules.specs.Systems.{linked}
 use Rattle.tables.specs.Parts.{systemIn}
-use Rattle.tables.proofs.Cells.{Sized, sized}
+use Rattle.rules.proofs.Refusals.{TakenTable, taken-table}
 use Rattle.tables.proofs.reach.write_components.Statement.{statement}
 use Rattle.tables.proofs.reach.write_components.Tie as tie
 
-known : (c : tie.Start) → Sized (c .args .table .now)
-known c = sized _ (c .pre .0)
+known : (c : tie.Start) → TakenTable (c .args .table .now)
+known c = taken-table _ (c .pre .0)
 
 shared-slice-read-n : tie.Need-shared-slice-read-n
 shared-slice-read-n c = omega (arith, known (c .before .before .before))
@@ -21,7 +21,7 @@ slice-aggregate-link-rows : tie.Need-slice-aggregate-link-rows
 slice-aggregate-link-rows c = search needs
 
 link-rows-requires : tie.Need-link-rows-requires
-link-rows-requires c κs = (c .before .before .before .before .pre .0, known (c .before .before .before .before) .states)
+link-rows-requires c κs = (c .before .before .before .before .pre .0, known (c .before .before .before .before) .sizes .most-states)
 
 slice-aggregate-close-rows : tie.Need-slice-aggregate-close-rows
 slice-aggregate-close-rows c = search needs

@@ -8,7 +8,7 @@ use borrow.Author.Needs.{needs}
 use lib.ListN.{length, getD, length-set}
 use Rattle.rules.specs.Tables.{tableOf}
 use Rattle.tables.specs.Parts.{statesOf, systemIn, makesCount, Gathered}
-use Rattle.tables.proofs.Cells.{Sized, sized}
+use Rattle.rules.proofs.Refusals.{TakenTable, taken-table}
 use Rattle.tables.proofs.Surveying.{component-below, gathered-more}
 use Rattle.tables.proofs.survey.gather.Statement.{statement}
 use Rattle.tables.proofs.survey.gather.Tie as tie
@@ -19,8 +19,8 @@ Inv-loop table components inside sets₀ n q₀ sets q = (q ≤ n) × (length se
 abbrev μ-loop : tie.MeasureT-loop
 μ-loop table components inside sets₀ n q₀ sets q = n - q
 
-known : (c : tie.Start Inv-loop μ-loop) → Sized (c .args .table .now)
-known c = sized _ (c .pre .0 .0)
+known : (c : tie.Start Inv-loop μ-loop) → TakenTable (c .args .table .now)
+known c = taken-table _ (c .pre .0 .0)
 
 module _ (c : tie.In-loop Inv-loop μ-loop) where
   abbrev start : tie.Start Inv-loop μ-loop

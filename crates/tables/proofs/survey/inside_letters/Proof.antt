@@ -9,7 +9,8 @@ use Rattle.rules.specs.Tables.{tableOf}
 use Rattle.tables.specs.Parts.{systemIn}
 use Rattle.rules.specs.Basics.{asBits}
 use Rattle.rules.proofs.Bits.{as-bits-below, as-bits-more}
-use Rattle.tables.proofs.Cells.{Sized, sized, row-within, cell-byte}
+use Rattle.rules.proofs.Refusals.{TakenTable, taken-table}
+use Rattle.tables.proofs.Cells.{row-within, target-within}
 use Rattle.tables.proofs.Surveying.{target-inside}
 use Rattle.tables.proofs.survey.inside_letters.Statement.{statement}
 use Rattle.tables.proofs.survey.inside_letters.Tie as tie
@@ -20,8 +21,8 @@ Inv-loop table components q n m first home letters₀ a₀ letters a = (a ≤ ta
 abbrev μ-loop : tie.MeasureT-loop
 μ-loop table components q n m first home letters₀ a₀ letters a = m - a
 
-known : (c : tie.Start Inv-loop μ-loop) → Sized (c .args .table .now)
-known c = sized _ (c .pre .0)
+known : (c : tie.Start Inv-loop μ-loop) → TakenTable (c .args .table .now)
+known c = taken-table _ (c .pre .0)
 
 room : (c : tie.Start Inv-loop μ-loop) → let t = tableOf (c .args .table .now) in c .args .q * t .letters ≤ t .states * t .letters
 room c = row-within _ _ (c .args .q) (c .pre .1)
@@ -52,7 +53,7 @@ add-is-home c = omega (arith, known (c .before .before .before .before .before .
 
 shared-slice-read-is-home : tie.Need-shared-slice-read-is-home Inv-loop μ-loop
 shared-slice-read-is-home c =
-    let s = c .before .before .before .before .before .before .before .before in cell-byte _ (s .pre .0) (s .args .q) _ (s .pre .1) (c .before .loop-test .taken)
+    let s = c .before .before .before .before .before .before .before .before in target-within _ (s .pre .0) (s .args .q) _ (s .pre .1) (c .before .loop-test .taken)
 
 is-home-requires : tie.Need-is-home-requires Inv-loop μ-loop
 is-home-requires c κs = c .before .before .before .before .before .before .before .before .pre .2 .enough

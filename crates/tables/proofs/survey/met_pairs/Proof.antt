@@ -11,7 +11,8 @@ use Rattle.rules.specs.Basics.{bit, anyBelow}
 use Rattle.rules.specs.Tables.{tableOf}
 use Rattle.rules.proofs.Bits.{bit-none}
 use Rattle.tables.specs.Parts.{makesCount}
-use Rattle.tables.proofs.Cells.{Sized, sized, row-within, marks-byte, counts-byte, counts-below}
+use Rattle.rules.proofs.Refusals.{TakenTable, taken-table}
+use Rattle.tables.proofs.Cells.{row-within, required-within, counts-byte, counts-below}
 use Rattle.tables.proofs.Surveying.{MetBelow, met-more}
 use Rattle.tables.proofs.survey.met_pairs.Statement.{statement}
 use Rattle.tables.proofs.survey.met_pairs.Tie as tie
@@ -22,8 +23,8 @@ Inv-loop table letters q m cells first met₀ a₀ met a = (a ≤ tableOf table 
 abbrev μ-loop : tie.MeasureT-loop
 μ-loop table letters q m cells first met₀ a₀ met a = m - a
 
-known : (c : tie.Start Inv-loop μ-loop) → Sized (c .args .table .now)
-known c = sized _ (c .pre .0)
+known : (c : tie.Start Inv-loop μ-loop) → TakenTable (c .args .table .now)
+known c = taken-table _ (c .pre .0)
 
 room : (c : tie.Start Inv-loop μ-loop) → let t = tableOf (c .args .table .now) in c .args .q * t .letters ≤ t .states * t .letters
 room c = row-within _ _ (c .args .q) (c .pre .1)
@@ -70,7 +71,7 @@ add-kept-2 c = omega (arith, known (c .before .before .before .before .before), 
 shared-slice-read-kept : tie.Need-shared-slice-read-kept Inv-loop μ-loop
 shared-slice-read-kept c =
     let s = c .before .before .before .before .before .before in
-    omega (arith, marks-byte (s .args .table .now) (s .pre .0) (s .args .q) (c .before .before .loop .a) (s .pre .1) (c .before .loop-test .taken))
+    omega (arith, required-within (s .args .table .now) (s .pre .0) (s .args .q) (c .before .before .loop .a) (s .pre .1) (c .before .loop-test .taken))
 
 kept-requires : tie.Need-kept-requires Inv-loop μ-loop
 kept-requires c κs = omega (arith, known (c .before .before .before .before .before .before))
@@ -91,7 +92,7 @@ loop-again c =
     let l = c .before .before .loop-test .taken in
     let small = lt-of-le-of-lt (c .kept .ensures .1) (counts-below bs (s .pre .0) q (i .a) (s .pre .1) l) in
     let more = met-more (makesCount bs) q letters (i .a) (i .met) (c .kept .result) (i .inv .2) in
-    let meets = more (λ x. c .kept .ensures .0 x ∙ ap (λ (y : Bool). bit (i .a) letters && y) (counts-byte bs (s .pre .0) x q (i .a) (s .pre .1) l)) in
+    let meets = more (λ x. c .kept .ensures .0 x ∙ ap (λ (y : Bool). bit (i .a) letters && y) (counts-byte bs (s .pre .0) q (i .a) (s .pre .1) l x)) in
     (omega arith, or-lt (tableOf bs .pairs) (i .met) (c .kept .result) (i .inv .1) small, meets)
 
 returns : tie.Need-returns Inv-loop μ-loop

@@ -9,7 +9,7 @@ use Rattle.rules.specs.Says.{over}
 use Rattle.rules.proofs.Arrays.{tabulate-same}
 use Rattle.rules.proofs.Filling.{zeros-at}
 use Rattle.tables.specs.Parts.{statesOf, systemIn, makesCount}
-use Rattle.tables.proofs.Cells.{sized}
+use Rattle.rules.proofs.Refusals.{taken-table}
 use Rattle.tables.proofs.Surveying.{component-below, gathered-none, gathered-met}
 use Rattle.tables.proofs.survey.write_counted.Statement.{statement}
 use Rattle.tables.proofs.survey.write_counted.Tie as tie
@@ -21,13 +21,13 @@ gather-requires : tie.Need-gather-requires
 gather-requires c κs =
     let s = c .before .before .before .before .before in
     let bs = s .args .table .now in
-    ((s .pre .0, s .pre .1, s .pre .2, sized bs (s .pre .0) .states), gathered-none (systemIn bs) (makesCount bs) (tableOf bs .pairs) _ (zeros-at 64))
+    ((s .pre .0, s .pre .1, s .pre .2, taken-table bs (s .pre .0) .sizes .most-states), gathered-none (systemIn bs) (makesCount bs) (tableOf bs .pairs) _ (zeros-at 64))
 
 slice-aggregate-spread : tie.Need-slice-aggregate-spread
 slice-aggregate-spread c = search needs
 
 shared-slice-read-spread : tie.Need-shared-slice-read-spread
-shared-slice-read-spread c = omega (arith, sized _ (c .before .before .before .before .before .before .before .before .before .pre .0))
+shared-slice-read-spread c = omega (arith, taken-table _ (c .before .before .before .before .before .before .before .before .before .pre .0))
 
 cast-spread : tie.Need-cast-spread
 cast-spread c = search needs
@@ -37,7 +37,7 @@ spread-requires c κs =
     let s = c .before .before .before .before .before .before .before .before .before .before in
     let bs = s .args .table .now in
     let size = c .before .before .before .before .gather .kept .1 .1 .1 .0 in
-    (s .pre .1 .enough, s .pre .3, λ q l. rw (size, s .pre .1 .entry q l) (omega (arith, component-below (systemIn bs) q l, sized bs (s .pre .0))))
+    (s .pre .1 .enough, s .pre .3, λ q l. rw (size, s .pre .1 .entry q l) (omega (arith, component-below (systemIn bs) q l, taken-table bs (s .pre .0))))
 
 same-length : tie.Need-same-length
 same-length c = search needs

@@ -6,7 +6,7 @@ use native.Mathlib.Omega.{arith}
 use borrow.Author.Needs.{needs}
 use Rattle.rules.specs.Tables.{tableOf}
 use Rattle.tables.specs.Surveys.{insideLetters}
-use Rattle.tables.proofs.Cells.{Sized, sized}
+use Rattle.rules.proofs.Refusals.{TakenTable, taken-table}
 use Rattle.rules.proofs.Filling.{Filled, filled-none, filled-more, filled-over}
 use Rattle.tables.proofs.survey.write_inside.Statement.{statement}
 use Rattle.tables.proofs.survey.write_inside.Tie as tie
@@ -17,8 +17,8 @@ Inv-loop table components inside₀ n q₀ inside q = (q ≤ n) × Filled (λ i 
 abbrev μ-loop : tie.MeasureT-loop
 μ-loop table components inside₀ n q₀ inside q = n - q
 
-known : (c : tie.Start Inv-loop μ-loop) → Sized (c .args .table .now)
-known c = sized _ (c .pre .0)
+known : (c : tie.Start Inv-loop μ-loop) → TakenTable (c .args .table .now)
+known c = taken-table _ (c .pre .0)
 
 shared-slice-read-n : tie.Need-shared-slice-read-n Inv-loop μ-loop
 shared-slice-read-n c = omega (arith, known (c .before .before .before .before))
