@@ -17,9 +17,10 @@ use borrow.Author.Tests.{ltb-true, not-false}
 use Rattle.rules.specs.Basics.{bit}
 use Rattle.rules.specs.Limits.{headerSize, noState}
 use Rattle.rules.specs.Systems.{cell}
-use Rattle.rules.specs.Tables.{Table, tableOf, tableFault, targetOf, markFault, marksFault, countsBy}
+use Rattle.rules.specs.Tables.{Table, tableOf, targetOf, markFault, marksFault, countsBy}
 use Rattle.rules.proofs.Bools.{or-none, and-parts}
 use Rattle.rules.proofs.Refusals.{taken-table}
+use Rattle.tables.specs.Parts.{Taken}
 
 pub cell-within : (n m q a : ℕ) → q < n → a < m → q * m + a < n * m
 cell-within n m q a l r = let h : suc q * m ≤ n * m = mul-le-mul l (le-refl m) in omega (arith, suc-mul q m)
@@ -60,7 +61,7 @@ module _ (bs : List ℕ) where
   abbrev pub requiredAt : ℕ → ℕ → ℕ
   requiredAt q a = headerSize + cells + 2 * (q * t .letters) + (2 * a + 1)
 
-  module _ (taken : tableFault bs ≡ 0) (q a : ℕ) (l : q < t .states) (r : a < t .letters) where
+  module _ (taken : Taken bs) (q a : ℕ) (l : q < t .states) (r : a < t .letters) where
     within : cell (t .letters) q a < cells
     within = cell-within (t .states) (t .letters) q a l r
 

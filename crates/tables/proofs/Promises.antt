@@ -12,6 +12,7 @@ use borrow.Author.Tests.{lt-ltb, le-ltb}
 use Rattle.rules.specs.Refusals as Refusal
 use Rattle.rules.specs.Tables.{tableOf, tableFault}
 use Rattle.rules.specs.Says.{over, components, ComponentsSay}
+use Rattle.tables.specs.Parts.{Taken}
 use Rattle.tables.specs.Surveys.{insideSets, countedSets, SurveySays}
 
 pub components-refused : (bs o : List ℕ) (r : ℕ) → r ≡ tableFault bs → (r ≡ 0 → ⊥) → ComponentsSay bs o o r
@@ -22,7 +23,7 @@ pub survey-refused : (bs i c : List ℕ) (r : ℕ) → r ≡ tableFault bs → (
 survey-refused bs i c zero e d = absurd (d refl)
 survey-refused bs i c (suc r) e d = record { number = rw (← e); inside-array = rw (eqb·suc-zero r); counted-array = rw (eqb·suc-zero r) }
 
-module _ (bs : List ℕ) (taken : tableFault bs ≡ 0) where
+module _ (bs : List ℕ) (taken : Taken bs) where
   pub components-short : (o : List ℕ) → length o < tableOf bs .states → ComponentsSay bs o o Refusal.arrays
   components-short o l =
       let e = lt-ltb (length o) (tableOf bs .states) l in record { number = rw (taken, e); array = rw (taken, e) }

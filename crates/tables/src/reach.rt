@@ -47,6 +47,7 @@ fn link_row(table: &[u8], q: usize) -> u64
     set
 }
 
+// The same for every state.
 fn link_rows(table: &[u8], rows: &mut [u64])
     requires { ⌜ Taken (now table) × (statesOf (now table) ≤ length (now rows)) ⌝ }
     ensures { λ _. ⌜ Holds (statesOf (now (table .entry))) (linked (systemIn (now (table .entry)))) (now (rows .exit)) ⌝ }
@@ -72,6 +73,7 @@ fn close_stage(rows: &mut [u64], n: usize, k: usize)
     }
 }
 
+// All stages: the rows of a relation become those of its chains.
 fn close_rows(rows: &mut [u64], n: usize)
     requires { ⌜ (n ≤ maxStates) × (n ≤ length (now rows)) ⌝ }
     ensures { λ _. ⌜ ((e : ℕ → ℕ → Bool) → Holds n e (now (rows .entry)) → Holds n (via e n) (now (rows .exit))) ⌝ }
@@ -98,6 +100,7 @@ fn component_of(rows: &[u64], q: usize) -> u8
     q as u8
 }
 
+// The component of every state, read off the rows of the chains.
 fn read_components(rows: &[u64], n: usize, out: &mut [u8])
     requires { ⌜ (n ≤ maxStates) × (n ≤ length (now rows)) × (n ≤ length (now out)) ⌝ }
     ensures { λ _. ⌜ ((s : System) → n ≡ s .states → Holds (s .states) (via (linked s) (s .states)) (now (rows .entry)) → now (out .exit) ≡ over (tabulate n 0 (componentOf s)) (now (out .entry))) ⌝ }

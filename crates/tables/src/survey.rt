@@ -54,6 +54,7 @@ fn inside_letters(table: &[u8], components: &[u8], q: usize) -> u16
     letters
 }
 
+// The same for every state, at the front of an array that has room.
 pub(crate) fn write_inside(table: &[u8], components: &[u8], inside: &mut [u16])
     requires { ⌜ Taken (now table) × Listed (statesOf (now table)) (componentOf (systemIn (now table))) (now components) × (statesOf (now table) ≤ length (now inside)) ⌝ }
     ensures { λ _. ⌜ now (inside .exit) ≡ over (insideSets (tableOf (now (table .entry)))) (now (inside .entry)) ⌝ }
@@ -120,6 +121,7 @@ fn spread(components: &[u8], sets: &[u8], n: usize, out: &mut [u8])
     }
 }
 
+// The pairs that count at each state, at the front of an array that has room.
 pub(crate) fn write_counted(table: &[u8], components: &[u8], inside: &[u16], out: &mut [u8])
     requires { ⌜ Taken (now table) × Listed (statesOf (now table)) (componentOf (systemIn (now table))) (now components) × Listed (statesOf (now table)) (insideLetters (tableOf (now table))) (now inside) × (statesOf (now table) ≤ length (now out)) ⌝ }
     ensures { λ _. ⌜ now (out .exit) ≡ over (countedSets (tableOf (now (table .entry)))) (now (out .entry)) ⌝ }

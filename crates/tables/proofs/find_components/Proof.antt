@@ -1,9 +1,9 @@
 -- `tables::find_components` meets its contract: each return is one law of `Promises`.
-use mathlib.Core.Path.{_≡_, sym, _∙_}
+use mathlib.Core.Path.{sym, _∙_}
 use native.Mathlib.Omega.{arith}
 use borrow.Author.Needs.{needs}
-use Rattle.rules.specs.Tables.{tableFault}
 use Rattle.rules.proofs.Refusals.{taken-table}
+use Rattle.tables.specs.Parts.{Taken}
 use Rattle.tables.proofs.Promises.{components-refused, components-short, components-found}
 use Rattle.tables.proofs.find_components.Statement.{statement}
 use Rattle.tables.proofs.find_components.Tie as tie
@@ -11,7 +11,8 @@ use Rattle.tables.proofs.find_components.Tie as tie
 check-table-requires : tie.Need-check-table-requires
 check-table-requires c κs = search needs
 
-taken : (c : tie.Else1) → tableFault (c .before .before .before .before .args .table .now) ≡ 0
+-- what the first test leaves
+taken : (c : tie.Else1) → Taken (c .before .before .before .before .args .table .now)
 taken c = sym (c .before .check-table .ensures) ∙ c .if1 .left
 
 returns : tie.Need-returns

@@ -1,8 +1,8 @@
+-- `tables::check::sizes_fault` meets its contract.
 use Rattle.tables.proofs.Checks.{sizes-fault}
 use Rattle.tables.proofs.check.sizes_fault.Statement.{statement}
 use Rattle.tables.proofs.check.sizes_fault.Tie as tie
 
--- src/check.rt:12:1
 returns : tie.Need-returns
 returns c = sizes-fault (c .args .n) (c .args .m) (c .args .k)
 

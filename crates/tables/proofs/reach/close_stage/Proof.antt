@@ -1,12 +1,9 @@
 -- `tables::reach::close_stage` meets its contract. The invariant: the rows below p are joined, the others as they were.
-use mathlib.Core.Path.{ap, _∙_}
-use mathlib.Core.Bool.{_&&_, _||_}
-use Prim.Native.Nat.{ℕ, _-_, _≤_}
+use Prim.Native.Nat.{_-_, _≤_}
 use native.Mathlib.Nat.{le-antisymm}
 use native.Mathlib.Omega.{arith}
 use borrow.Author.Needs.{needs}
 use lib.ListN.{getD}
-use Rattle.rules.specs.Basics.{bit}
 use Rattle.rules.proofs.Filling.{Filled, filled-none, filled-more}
 use Rattle.tables.proofs.Closure.{Joined, stage-done}
 use Rattle.tables.proofs.reach.close_stage.Statement.{statement}
@@ -52,17 +49,19 @@ loop-again : tie.Need-loop-again Inv-loop μ-loop
 loop-again c =
     let s = c .before .before .before .before .before .before in
     let i = c .before .before .before .loop in
-    let joined : Joined (s .args .k) (getD (s .args .rows .now) (s .args .k) 0) (getD (s .args .rows .now) (i .p) 0) (c .with-all .result) =
-    λ q. c .with-all .ensures q ∙ ap (λ (x : ℕ). bit q x || (bit (s .args .k) x && bit q (getD (s .args .rows .now) (s .args .k) 0))) (i .inv .1 .rest (i .p) (omega arith)) in
+    let rows = s .args .rows .now in
+    let joined : Joined (s .args .k) (getD rows (s .args .k) 0) (getD rows (i .p) 0) (c .with-all .result) = rw (i .inv .1 .rest (i .p) (omega arith)) at (c .with-all .ensures) in
     (omega arith, filled-more _ _ _ (i .p) (c .with-all .result) (omega arith) joined (i .inv .1))
 
 same-length : tie.Need-same-length Inv-loop μ-loop
 same-length c = c .before .loop .inv .1 .size
 
 returns : tie.Need-returns Inv-loop μ-loop
-returns c = λ e h. let s = c .before .before .before .before in
+returns c =
+    let s = c .before .before .before .before in
     let i = c .before .loop in
-    stage-done e (s .args .n) (s .args .k) (s .args .rows .now) (i .rows) (s .pre .2) (rw (le-antisymm (i .inv .0) (c .loop-test .left)) at (i .inv .1)) h
+    let all = rw (le-antisymm (i .inv .0) (c .loop-test .left)) at (i .inv .1) in
+    λ e h. stage-done e (s .args .n) (s .args .k) (s .args .rows .now) (i .rows) (s .pre .2) all h
 
 pub close-stage-spec : {M : Type 1} → statement M
 close-stage-spec =

@@ -21,9 +21,9 @@ abbrev μ-loop : tie.MeasureT-loop
 known : (c : tie.Start Inv-loop μ-loop) → TakenTable (c .args .table .now)
 known c = taken-table _ (c .pre .0)
 
-row-fits : (c : tie.Start Inv-loop μ-loop)
+room : (c : tie.Start Inv-loop μ-loop)
     → let t = tableOf (c .args .table .now) in c .args .q * t .letters ≤ t .states * t .letters
-row-fits c = row-within _ _ (c .args .q) (c .pre .1)
+room c = row-within _ _ (c .args .q) (c .pre .1)
 
 shared-slice-read-n : tie.Need-shared-slice-read-n Inv-loop μ-loop
 shared-slice-read-n c = omega (arith, known (c .before .before))
@@ -35,16 +35,16 @@ cast-m : tie.Need-cast-m Inv-loop μ-loop
 cast-m c = omega (arith, known (c .before .before .before))
 
 mul-first : tie.Need-mul-first Inv-loop μ-loop
-mul-first c = omega (arith, row-fits (c .before .before .before), known (c .before .before .before))
+mul-first c = omega (arith, room (c .before .before .before), known (c .before .before .before))
 
 add-first : tie.Need-add-first Inv-loop μ-loop
-add-first c = omega (arith, row-fits (c .before .before .before), known (c .before .before .before))
+add-first c = omega (arith, room (c .before .before .before), known (c .before .before .before))
 
 loop-holds : tie.Need-loop-holds Inv-loop μ-loop
 loop-holds c = (search needs, λ p l. bit-none p)
 
 add-with-target : tie.Need-add-with-target Inv-loop μ-loop
-add-with-target c = omega (arith, row-fits (c .before .before .before .before .before), known (c .before .before .before .before .before))
+add-with-target c = omega (arith, room (c .before .before .before .before .before), known (c .before .before .before .before .before))
 
 shared-slice-read-with-target : tie.Need-shared-slice-read-with-target Inv-loop μ-loop
 shared-slice-read-with-target c =
