@@ -5,6 +5,7 @@
 --     components t                            the smallest state of each state's component
 --     componentsFault bs n                    the table's refusals, then 7 for an array of n bytes that is too short
 --     ComponentsSay bs o o′ r                 finding the components
+--     areShort c m a b d e                    the capacity is out of range, or one of the four lent arrays is below its size
 --     arraysFault c m a b d e                 7: the capacity, or the lengths of the four lent arrays
 --     translateFault bs c a b d e             the table's refusals, then 7, then 8
 --     padded n xs o                           o with xs and zeros up to n at its front
@@ -15,7 +16,7 @@
 --     RabinSays, ParitySays                   judging a looped word
 --     RestSays lead l i part                  the rest of a piece as that very part of it
 use mathlib.Core.Path.{_≡_}
-use mathlib.Core.Bool.{_||_}
+use mathlib.Core.Bool.{Bool, _||_}
 use mathlib.Core.List.{List, [], _++_}
 use Prim.Native.Nat.{ℕ, _-_, _*_}
 use lib.Dec.{eqb, ltb}
@@ -47,8 +48,11 @@ pub record ComponentsSay (bs o o′ : List ℕ) (r : ℕ) : Type 0 where
   pub array : o′ ≡ pick (eqb (componentsFault bs (length o)) 0) (over (components (tableOf bs)) o) o
 
 -- translating
+abbrev pub areShort : ℕ → ℕ → ℕ → ℕ → ℕ → ℕ → Bool
+areShort c m a b d e = eqb c 0 || (ltb maxRows c || (ltb a (c * m) || (ltb b (c * m) || (ltb d c || ltb e c))))
+
 abbrev pub arraysFault : ℕ → ℕ → ℕ → ℕ → ℕ → ℕ → ℕ
-arraysFault c m a b d e = when (eqb c 0 || (ltb maxRows c || (ltb a (c * m) || (ltb b (c * m) || (ltb d c || ltb e c))))) Refusal.arrays
+arraysFault c m a b d e = when (areShort c m a b d e) Refusal.arrays
 
 unfoldable pub translateFault : List ℕ → ℕ → ℕ → ℕ → ℕ → ℕ → ℕ
 translateFault bs c a b d e = firstOf (tableFault bs) (firstOf (arraysFault c (tableOf bs .letters) a b d e) (when (exceeds bs c) Refusal.full))

@@ -8,3 +8,9 @@ pub const MAX_PAIRS: u8 = 6;
 pub const HEADER_SIZE: usize = 4;
 
 pub const NO_STATE: u8 = 255;
+
+pub const NO_ROW: u16 = 65535;
+
+pub const MAX_ROWS: usize = 4096;
+
+pub const MAX_CELLS: usize = 1024;

@@ -12,3 +12,5 @@ pub const TARGET: u8 = 5;
 pub const MARKS: u8 = 6;
 
 pub const ARRAYS: u8 = 7;
+
+pub const FULL: u8 = 8;

@@ -1,0 +1,55 @@
+-- Records as words: an ordering of pairs with three bits a place.
+--     limit                the most pairs that a record holds
+--     base                 one more than the largest number that a place can hold
+--     isMarked set i       pair i is in the set: bit i - 1 is set; 0 is no pair
+--     isPair i             i is the number of a pair
+--     marksIn p r          the marks whose prohibited pairs are the set p and whose required pairs are the set r
+--     packed o             the word whose places hold o, the first pair lowest
+--     placesOf n w         the first n places of a word
+--     places w             the places of a record's word
+--     pairsIn w            the ordering that a record's word holds: its places that are used
+--     lastFrom p b o best  the last position of o, which begins at position p, whose pair passes the test b; best if there is none
+--     lastPosition b o     the largest position of a pair that passes the test b, 0 if there is none
+use mathlib.Core.Bool.{Bool, not, _&&_}
+use mathlib.Core.List.{List, [], _∷_}
+use Prim.Native.Nat.{ℕ, zero, suc, _+_, _-_, _*_, _/_, _%_}
+use lib.Dec.{eqb}
+use Rattle.rules.specs.Basics.{pick, keep, bit}
+use Rattle.rules.specs.Limits.{maxPairs}
+use Rattle.rules.specs.Records.{Marks}
+
+abbrev pub limit : ℕ
+limit = maxPairs
+
+abbrev pub base : ℕ
+base = 8
+
+abbrev pub isPair : ℕ → Bool
+isPair i = not (eqb i 0)
+
+abbrev pub isMarked : ℕ → ℕ → Bool
+isMarked set i = isPair i && bit (i - 1) set
+
+abbrev pub marksIn : ℕ → ℕ → Marks
+marksIn p r = record { prohibited = isMarked p; required = isMarked r }
+
+abbrev pub packed : List ℕ → ℕ
+packed [] = 0
+packed (i ∷ o) = i + base * packed o
+
+abbrev pub placesOf : ℕ → ℕ → List ℕ
+placesOf zero w = []
+placesOf (suc n) w = w % base ∷ placesOf n (w / base)
+
+abbrev pub places : ℕ → List ℕ
+places w = placesOf limit w
+
+abbrev pub pairsIn : ℕ → List ℕ
+pairsIn w = keep isPair (places w)
+
+abbrev pub lastFrom : ℕ → (ℕ → Bool) → List ℕ → ℕ → ℕ
+lastFrom p b [] best = best
+lastFrom p b (i ∷ o) best = lastFrom (suc p) b o (pick (b i) p best)
+
+abbrev pub lastPosition : (ℕ → Bool) → List ℕ → ℕ
+lastPosition b o = lastFrom 1 b o 0

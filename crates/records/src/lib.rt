@@ -1,0 +1,155 @@
+// Index appearance records by value: an ordering of pairs in one word, three bits a place, places that are not used being 0.
+// It rests on `rules`. Every method takes any record and any byte and states its whole result, by the definitions of the rules
+// over the record's places.
+ghost use mathlib.Core.Path.{_≡_};
+ghost use Prim.Native.Nat.{_≤_, _<_, _*_, _+_};
+ghost use lib.ListN.{getD};
+ghost use mathlib.Core.List.{_∷_};
+ghost use Rattle.rules.specs.Basics.{pick, keep, tabulate};
+ghost use Rattle.rules.specs.Records.{asTheyStood, moved, priority, decimal};
+ghost use Rattle.records.specs.Words.{limit, base, isPair, isMarked, marksIn, packed, places, pairsIn, lastPosition};
+
+// The number of a pair, from 1; 0 is no pair.
+pub struct PairNumber(pub u8);
+
+// A position in a record, from 1; 0 is no position.
+pub struct Position(pub u8);
+
+// An ordering of pairs: the pair at position p in the three bits from 3 · (p − 1) on.
+pub struct Record {
+    pub word: u32,
+}
+
+impl PairNumber {
+    // The pair is in the set: bit i − 1 for pair i.
+    pub fn is_in(self, pairs: u8) -> bool
+        ensures { λ r. ⌜ r ≡ isMarked pairs (self .0) ⌝ }
+    {
+        let i = self.0;
+        let shift = i % 16;
+        let set = 2 * (pairs as u16);
+        (i < 16) & ((set >> shift) % 2 == 1)
+    }
+}
+
+impl Record {
+    // The most pairs that a record holds.
+    pub const LIMIT: u8 = 6;
+
+    // The pairs of the set, rising.
+    pub fn rising(pairs: u8) -> Self
+        ensures { λ r. ⌜ r .word ≡ packed (keep (isMarked pairs) (tabulate limit 1 (λ i. i))) ⌝ }
+    {
+        let mut word = 0;
+        let mut i = Record::LIMIT;
+        while 0 < i {
+            word = with_pair(word, PairNumber(i), PairNumber(i).is_in(pairs));
+            i -= 1;
+        }
+        Record { word }
+    }
+
+    // The pair at a position; 0 where there is none.
+    pub fn pair_at(self, at: Position) -> PairNumber
+        ensures { λ r. ⌜ r .0 ≡ getD (0 ∷ places (self .word)) (at .0) 0 ⌝ }
+    {
+        let p = at.0;
+        if (p == 0) | (Record::LIMIT < p) {
+            return PairNumber(0);
+        }
+        let shift = 3 * (p - 1);
+        PairNumber(((self.word >> shift) % 8) as u8)
+    }
+
+    // The largest position of a pair of the set; 0 where there is none.
+    pub fn last_marked(self, pairs: u8) -> Position
+        ensures { λ r. ⌜ r .0 ≡ lastPosition (isMarked pairs) (places (self .word)) ⌝ }
+    {
+        let mut last = Position(0);
+        let mut p = 1;
+        while p <= Record::LIMIT {
+            let hit = self.pair_at(Position(p)).is_in(pairs);
+            last = later(last, Position(p), hit);
+            p += 1;
+        }
+        last
+    }
+
+    // The priority of an inside transition with these marks, by the record before the move.
+    pub fn priority(self, prohibited: u8, required: u8) -> u8
+        ensures { λ r. ⌜ r ≡ priority (marksIn prohibited required) (places (self .word)) ⌝ }
+    {
+        let odd = 2 * self.last_marked(prohibited).0 + 1;
+        let even = 2 * self.last_marked(required).0;
+        if odd < even { even } else { odd }
+    }
+
+    // The record after the pairs of the set have moved to the front.
+    pub fn moved(self, pairs: u8) -> Self
+        ensures { λ r. ⌜ r .word ≡ packed (moved asTheyStood (isMarked pairs) (places (self .word))) ⌝ }
+    {
+        let mut front = 0;
+        let mut others = 0;
+        let mut unit = 1;
+        let mut p = Record::LIMIT;
+        while 0 < p {
+            let pair = self.pair_at(Position(p));
+            let goes = pair.is_in(pairs);
+            front = with_pair(front, pair, goes);
+            others = with_pair(others, pair, !goes);
+            unit = widened(unit, goes);
+            p -= 1;
+        }
+        Record {
+            word: front + unit * others,
+        }
+    }
+
+    // The pair numbers read as one decimal number; 0 where there is none.
+    pub fn number(self) -> u32
+        ensures { λ r. ⌜ r ≡ decimal (pairsIn (self .word)) ⌝ }
+    {
+        let mut number = 0;
+        let mut p = 1;
+        while p <= Record::LIMIT {
+            number = with_digit(number, self.pair_at(Position(p)));
+            p += 1;
+        }
+        number
+    }
+}
+
+// The word with the pair in front, where it goes there.
+fn with_pair(word: u32, pair: PairNumber, goes: bool) -> u32
+    requires { ⌜ (word < 32768) × (pair .0 < base) ⌝ }
+    ensures { λ r. ⌜ r ≡ pick goes (pair .0 + base * word) word ⌝ }
+{
+    if goes { pair.0 as u32 + 8 * word } else { word }
+}
+
+// The unit of the place behind, where one place more is taken.
+fn widened(unit: u32, goes: bool) -> u32
+    requires { ⌜ unit ≤ 32768 ⌝ }
+    ensures { λ r. ⌜ r ≡ pick goes (base * unit) unit ⌝ }
+{
+    if goes { 8 * unit } else { unit }
+}
+
+// The later of two positions, where the second is hit.
+fn later(last: Position, at: Position, hit: bool) -> Position
+    ensures { λ r. ⌜ r .0 ≡ pick hit (at .0) (last .0) ⌝ }
+{
+    if hit { at } else { last }
+}
+
+// The number with one digit more, where the pair is one.
+fn with_digit(number: u32, pair: PairNumber) -> u32
+    requires { ⌜ (number < 16777216) × (pair .0 < base) ⌝ }
+    ensures { λ r. ⌜ r ≡ pick (isPair (pair .0)) (10 * number + pair .0) number ⌝ }
+{
+    if pair.0 == 0 {
+        number
+    } else {
+        10 * number + pair.0 as u32
+    }
+}
