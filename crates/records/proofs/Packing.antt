@@ -9,11 +9,12 @@
 --     position-within          a position that is not refused is one of the record
 --     no-pair-at, pair-shifted, pair-below     the pair at a position: none, as a shift finds it, and below base
 --     rising-at, rising-below  the numbers from 1 on
+--     packed-places            the word of all its places is the word
 --     places-packed, pairs-packed, packed-small     the word of an ordering holds it, and nothing else
 --     moved-packed, priority-packed     a move and a priority are the same for the places of that word
 --     marked-none              0 is in no set
 --     marked-shifted           a pair is in a set, as a shift finds it
---     priority-unmarked        the priority where nothing is marked
+--     moved-unmarked, priority-unmarked     the move and the priority where nothing is marked
 --     last-within              the last position of a marked pair lies within the record
 --     priority-later           the priority, from the last positions of a prohibited and of a required pair
 --     kept-turn, width-turn, last-turn, digit-turn     a turn at one position
@@ -117,6 +118,10 @@ pub places-below : (n w : ℕ) → AllBelow (placesOf n w)
 places-below zero w i h = absurd (false≢true h)
 places-below (suc n) w i h =
     or-cases (eqb i (w % base)) (isIn i (placesOf n (w / base))) h (λ e. omega (arith, eqb-true i (w % base) e)) (places-below n (w / base) i)
+
+pub packed-places : (n w : ℕ) → w < base ^ n → packed (placesOf n w) ≡ w
+packed-places zero w l = omega arith
+packed-places (suc n) w l = let p = pow-suc 8 n in omega (arith, packed-places n (w / base) (omega arith))
 
 pub position-within : (n p : ℕ) → eqb p 0 || ltb n p ≡ false → (1 ≤ p) × (p ≤ n)
 position-within n p h =
@@ -224,6 +229,14 @@ marked-none set = refl
 unmarked : (i : ℕ) → isMarked 0 i ≡ false
 unmarked i = by (isPair i) (λ e. rw (e, bit-none (i - 1))) (λ e. rw e)
 
+never-any : (b : ℕ → Bool) (o : List ℕ) → ((i : ℕ) → b i ≡ false) → any b o ≡ false
+never-any b [] h = refl
+never-any b (i ∷ o) h = rw (h i, never-any b o h)
+
+pub moved-unmarked : (o : List ℕ) → moved asTheyStood (isMarked 0) o ≡ o
+moved-unmarked o =
+    let none = never-any (isMarked 0) o unmarked in rw (none-kept (isMarked 0) o none) (others-all (isMarked 0) o none)
+
 -- the bits of a byte, moved up by one so that pair 0 has one too
 pub marked-shifted : (set i : ℕ) → set < 256 → ltb i 16 && eqb (2 * set / 2 ^ (i % 16) % 2) 1 ≡ isMarked set i
 marked-shifted set zero l = let e : 2 * set / 1 % 2 ≡ 0 = rw (div-one (2 * set)) (omega arith) in rw e
@@ -244,12 +257,8 @@ marked-shifted set (suc j) l =
         ap (λ (s : ℕ). 2 * set / 2 ^ s) (omega arith) ∙ sym (shr-shr (2 * set) 1 j) ∙ ap (λ (x : ℕ). x / 2 ^ j) (omega arith)
 
 -- ---- priorities
-none-marked : (o : List ℕ) → any (marked (marksIn 0 0)) o ≡ false
-none-marked [] = refl
-none-marked (i ∷ o) = rw (unmarked i, none-marked o)
-
 pub priority-unmarked : (o : List ℕ) → priority (marksIn 0 0) o ≡ 1
-priority-unmarked o = priority-none (marksIn 0 0) o (none-marked o)
+priority-unmarked o = priority-none (marksIn 0 0) o (never-any (marked (marksIn 0 0)) o (λ i. rw (unmarked i)))
 
 last-below : (b : ℕ → Bool) (o : List ℕ) (p best : ℕ) → best < p → lastFrom p b o best < p + length o
 last-below b [] p best l = omega arith

@@ -1,18 +1,22 @@
 -- What stands where in an array that joins one list for each row, with whatever stands behind it.
---     tabulate-length, tabulate-at, tabulate-same     a tabulated list
+--     tabulate-length, tabulate-at, tabulate-last, tabulate-same     a tabulated list
+--     cell-before, cell-same, cell-split     a place is the cell of one row and one letter only
 --     joined-length, joined-at         lists of one length, joined: the cell of row i and letter a is number i · m + a
 --     tabulate-none, joined-none       where nothing passes a test, in each place or in each list
 --     mapped-at                        one number for each row
 use mathlib.Core.Path.{_≡_, refl, sym, ap, _∙_}
 use mathlib.Core.Bool.{Bool, false}
 use mathlib.Core.List.{List, [], _∷_, _++_, append-assoc, map}
-use Prim.Native.Nat.{ℕ, zero, suc, _+_, _*_, _≤_, _<_}
-use native.Mathlib.Nat.{suc-mul, zero-mul}
+use Prim.Native.Nat.{ℕ, zero, suc, _+_, _*_, _/_, _%_, _≤_, _<_}
+use native.Mathlib.Nat.{suc-mul, zero-mul, mul-le-mul, le-refl, div-add-mod', div-lt-iff-lt-mul, mod-lt}
 use native.Mathlib.Omega.{arith}
+use lib.Dec.{ltb}
 use lib.ListN.{length, getD, length-append, List·getD-append}
 use lib.Seq.{getD-append-add}
+use borrow.Author.Tests.{ltb-true, ltb-false}
 use Rattle.rules.specs.Basics.{any, tabulate, joined}
 use Rattle.rules.specs.Systems.{cell}
+use Rattle.rules.proofs.Bools.{by}
 use Rattle.rules.proofs.Sets.{any-append}
 
 module _ {B : Type 0} (h : ℕ → B) where
@@ -25,10 +29,34 @@ module _ {B : Type 0} (h : ℕ → B) where
   tabulate-at (suc n) i zero d l = ap h (omega arith)
   tabulate-at (suc n) i (suc a) d l = tabulate-at n (suc i) a d (omega arith) ∙ ap h (omega arith)
 
+pub tabulate-last : {B : Type 0} (h : ℕ → B) (n i : ℕ) → tabulate (suc n) i h ≡ tabulate n i h ++ (h (i + n) ∷ [])
+tabulate-last h zero i = let e : i + 0 ≡ i = omega arith in rw e
+tabulate-last h (suc n) i = let e : suc i + n ≡ i + suc n = omega arith in ap (λ (z : List _). h i ∷ z) (tabulate-last h n (suc i) ∙ rw e)
+
 pub tabulate-same : {B : Type 0} (g h : ℕ → B) (n i : ℕ) → ((a : ℕ) → i ≤ a → a < i + n → g a ≡ h a) → tabulate n i g ≡ tabulate n i h
 tabulate-same g h zero i f = refl
 tabulate-same g h (suc n) i f =
     rw (f i (omega arith) (omega arith), tabulate-same g h n (suc i) (λ a l u. f a (omega arith) (omega arith)))
+
+-- ---- cells
+pub cell-before : (m q q′ a a′ : ℕ) → a < m → q < q′ → cell m q a < cell m q′ a′
+cell-before m q q′ a a′ l h = let rows : suc q * m ≤ q′ * m = mul-le-mul h (le-refl m) in omega (arith, suc-mul q m)
+
+pub cell-same : (m q q′ a a′ : ℕ) → a < m → a′ < m → cell m q a ≡ cell m q′ a′ → (q ≡ q′) × (a ≡ a′)
+cell-same m q q′ a a′ l l′ e = (same, letters same)
+  where
+    same : q ≡ q′
+    same =
+        by
+        (ltb q q′)
+        (λ f. absurd (omega (arith, cell-before m q q′ a a′ l (ltb-true q q′ f))))
+        (λ f. by (ltb q′ q) (λ g. absurd (omega (arith, cell-before m q′ q a′ a l′ (ltb-true q′ q g)))) (λ g. omega (arith, ltb-false q q′ f, ltb-false q′ q g)))
+
+    letters : q ≡ q′ → a ≡ a′
+    letters z = let f : cell m q a ≡ cell m q a′ = rw (← z) at e in omega arith
+
+pub cell-split : (m n p : ℕ) → 0 < m → p < n * m → (q a : ℕ) × (a < m) × (q < n) × (p ≡ cell m q a)
+cell-split m n p l h = (p / m, p % m, mod-lt p l, div-lt-iff-lt-mul l .1 h, sym (div-add-mod' p m))
 
 module _ {A B : Type 0} (h : A → List B) (m : ℕ) (even : (x : A) → length (h x) ≡ m) where
   pub joined-length : (xs : List A) → length (joined h xs) ≡ length xs * m

@@ -1,32 +1,32 @@
 -- Sets of numbers as bits of words.
---     bit-or             the bits of two words together
+--     bit-or, bit-and    the bits of two words together, and those that both have
 --     bit-one            the bits of a word with one bit
---     bit-none           no bit of 0 is set
+--     bit-none, bit-over      no bit of 0 is set, nor one above a word
 --     one-shifted        a word with one bit, as a shift makes it
 --     as-bits-below, as-bits-more, as-bits-at     the number whose bits pass a test, one number more, and its bits
 --     bits-determine, bits-are      numbers with the same bits are equal
 use mathlib.Core.Path.{_≡_, refl, sym, ap, _∙_}
-use mathlib.Core.Bool.{Bool, true, false, _||_}
-use Prim.Native.Nat.{ℕ, zero, suc, _+_, _-_, _*_, _/_, _%_, _^_, max, _<_}
+use mathlib.Core.Bool.{Bool, true, false, _&&_, _||_}
+use Prim.Native.Nat.{ℕ, zero, suc, _+_, _-_, _*_, _/_, _%_, _^_, max, min, _<_}
 use native.Mathlib.Nat.{one-mul, pow-suc, div-eq-of-lt, zero-div, div-one, zero-add, not-suc-le-zero}
 use native.Mathlib.Numerals.{add-one}
 use native.Mathlib.Omega.{arith}
 use lib.Dec.{eqb, ltb, lit<}
-use lib.Bits.{bitOr, or-step, or-shr, or-shifted}
+use lib.Bits.{bitAnd, bitOr, and-step, or-step, and-shr, or-shr, or-shifted}
 use lib.Pow.{pow-lt, pow-add, shl-exact, shl-shr, shr-shr}
 use borrow.Author.Tests.{eqb-true, eqb-false, eq-eqb, ne-eqb, ltb-true, ltb-false}
 use Rattle.rules.specs.Basics.{bit, when, asBits}
 use Rattle.rules.proofs.Bools.{by}
 
--- two digits, of which one is 1
-digits-or : (x y : ℕ) → x < 2 → y < 2 → eqb (max x y) 1 ≡ eqb x 1 || eqb y 1
-digits-or zero zero l r = refl
-digits-or zero (suc zero) l r = refl
-digits-or (suc zero) zero l r = refl
-digits-or (suc zero) (suc zero) l r = refl
-digits-or (suc (suc x)) y l r = absurd (omega arith)
-digits-or zero (suc (suc y)) l r = absurd (omega arith)
-digits-or (suc zero) (suc (suc y)) l r = absurd (omega arith)
+-- what holds of two digits, case by case
+two-digits : (P : ℕ → ℕ → Type 0) → P 0 0 → P 0 1 → P 1 0 → P 1 1 → (x y : ℕ) → x < 2 → y < 2 → P x y
+two-digits P a b c d zero zero l r = a
+two-digits P a b c d zero (suc zero) l r = b
+two-digits P a b c d (suc zero) zero l r = c
+two-digits P a b c d (suc zero) (suc zero) l r = d
+two-digits P a b c d (suc (suc x)) y l r = absurd (omega arith)
+two-digits P a b c d zero (suc (suc y)) l r = absurd (omega arith)
+two-digits P a b c d (suc zero) (suc (suc y)) l r = absurd (omega arith)
 
 pub bit-or : (j a b : ℕ) → bit j (bitOr a b) ≡ bit j a || bit j b
 bit-or j a b =
@@ -34,7 +34,15 @@ bit-or j a b =
     let y = b / 2 ^ j in
     let step = or-step x y in
     let e : bitOr a b / 2 ^ j % 2 ≡ max (x % 2) (y % 2) = rw (or-shr a b j) (omega arith) in
-    rw e (digits-or (x % 2) (y % 2) (omega arith) (omega arith))
+    rw e (two-digits (λ u v. eqb (max u v) 1 ≡ eqb u 1 || eqb v 1) refl refl refl refl (x % 2) (y % 2) (omega arith) (omega arith))
+
+pub bit-and : (j a b : ℕ) → bit j (bitAnd a b) ≡ bit j a && bit j b
+bit-and j a b =
+    let x = a / 2 ^ j in
+    let y = b / 2 ^ j in
+    let step = and-step x y in
+    let e : bitAnd a b / 2 ^ j % 2 ≡ min (x % 2) (y % 2) = rw (and-shr a b j) (omega arith) in
+    rw e (two-digits (λ u v. eqb (min u v) 1 ≡ eqb u 1 && eqb v 1) refl refl refl refl (x % 2) (y % 2) (omega arith) (omega arith))
 
 pub bit-none : (j : ℕ) → bit j 0 ≡ false
 bit-none j = rw (zero-div (2 ^ j))
@@ -65,7 +73,7 @@ pub one-shifted : (w q : ℕ) → q < w → 1 * 2 ^ q % 2 ^ w ≡ 2 ^ q
 one-shifted w q l = shl-exact 1 q w (lit< tt) (omega arith) ∙ one-mul (2 ^ q)
 
 -- the number whose bits are the numbers that pass a test
-bit-over : (k w : ℕ) → w < 2 ^ k → bit k w ≡ false
+pub bit-over : (k w : ℕ) → w < 2 ^ k → bit k w ≡ false
 bit-over k w l = rw (div-eq-of-lt l)
 
 bit-more : (k w j : ℕ) → w < 2 ^ k → bit j (2 ^ k + w) ≡ eqb k j || bit j w

@@ -2,6 +2,8 @@
 --     place-*        the place of the first element that passes a test
 --     Found          what holds of the rows found at a moment of the exploration
 --     found-met      one transition more keeps it
+--     met-longer, met-row, by-next, by-grows     what a transition, and letters, leave of the rows found
+--     from-on, from-stop     a row more is read, or none
 --     explored       at the end all rows have been read, unless there are too many
 --     rows-view      the rows found are exactly the reachable ones, each once, in order of discovery; full exactly if more than c are reachable
 use mathlib.Core.Path.{_≡_, refl, sym, ap, _∙_, subst}
@@ -37,6 +39,11 @@ module _ {A : Type 0} (b : A → Bool) where
   place-least d (x ∷ xs) (suc k) l h =
       by (b x) (λ e. rw (place-hit x xs e) (omega arith)) (λ e. rw (place-miss x xs e) (omega (arith, place-least d xs k (omega arith) h)))
 
+  pub place-most : (xs : List A) → placeOf b xs ≤ length xs
+  place-most [] = omega arith
+  place-most (x ∷ xs) =
+      by (b x) (λ e. rw (place-hit x xs e) (omega arith)) (λ e. rw (place-miss x xs e) (omega (arith, place-most xs)))
+
   pub place-append : (xs ys : List A) → placeOf b xs < length xs → placeOf b (xs ++ ys) ≡ placeOf b xs
   place-append [] ys h = absurd (omega arith)
   place-append (x ∷ xs) ys h =
@@ -52,6 +59,20 @@ module _ {A : Type 0} (b : A → Bool) where
       (b x)
       (λ f. absurd (omega (arith, rw (place-hit x xs f) at h)))
       (λ f. place-miss x (xs ++ (y ∷ [])) f ∙ ap suc (place-added xs y (omega (arith, rw (place-miss x xs f) at h)) e))
+
+-- two lists with the same answers to two tests
+pub place-same : {A B : Type 0} (b : A → Bool) (c : B → Bool) (xs : List A) (ys : List B) (d : A) (e : B) → length xs ≡ length ys
+    → ((i : ℕ) → i < length xs → b (getD xs i d) ≡ c (getD ys i e)) → placeOf b xs ≡ placeOf c ys
+place-same b c [] [] d e l h = refl
+place-same b c [] (y ∷ ys) d e l h = absurd (omega arith)
+place-same b c (x ∷ xs) [] d e l h = absurd (omega arith)
+place-same b c (x ∷ xs) (y ∷ ys) d e l h =
+    let rest = place-same b c xs ys d e (omega arith) (λ i k. h (suc i) (omega arith)) in
+    let here : b x ≡ c y = h 0 (omega arith) in
+    by
+    (b x)
+    (λ f. place-hit b x xs f ∙ sym (place-hit c y ys (sym here ∙ f)))
+    (λ f. place-miss b x xs f ∙ ap suc rest ∙ sym (place-miss c y ys (sym here ∙ f)))
 
 -- ---- moments of the exploration, ordered by row and letter
 earlier-row : {j b i a : ℕ} → Earlier j b i a → j ≤ i
@@ -175,19 +196,30 @@ module _ {A : Type 0} (g : Plan A) (law : SameIsEqual g) where
               (λ h. leb-false (length rs) (numberOf g x rs) h)
 
   -- ---- the whole exploration
-  met-longer : (rs : List A) (r : A) (a : ℕ) → length rs ≤ length (met g rs r a)
+  pub met-longer : (rs : List A) (r : A) (a : ℕ) → length rs ≤ length (met g rs r a)
   met-longer rs r a =
       by
       (g .step r a .there && leb (length rs) (numberOf g (g .step r a .to) rs))
       (λ e. rw e (simp length-append (omega arith)))
       (λ e. rw e (omega arith))
 
-  met-row : (rs : List A) (r : A) (a i : ℕ) → i < length rs → rowAt g (met g rs r a) i ≡ rowAt g rs i
+  pub met-row : (rs : List A) (r : A) (a i : ℕ) → i < length rs → rowAt g (met g rs r a) i ≡ rowAt g rs i
   met-row rs r a i l =
       by
       (g .step r a .there && leb (length rs) (numberOf g (g .step r a .to) rs))
       (λ e. rw e (List·getD-append rs (g .step r a .to ∷ []) (g .first) i l))
       (λ e. rw e)
+
+  -- the letters below a, then one more
+  pub by-next : (n a : ℕ) (r : A) (rs : List A) → foundBy (suc n) a g r rs ≡ met g (foundBy n a g r rs) r (a + n)
+  by-next zero a r rs = let e : a + 0 ≡ a = omega arith in rw e
+  by-next (suc n) a r rs = let e : suc a + n ≡ a + suc n = omega arith in by-next n (suc a) r (met g rs r a) ∙ rw e
+
+  pub by-grows : (d n a : ℕ) (r : A) (rs : List A) → length (foundBy n a g r rs) ≤ length (foundBy (d + n) a g r rs)
+  by-grows zero n a r rs = let e : 0 + n ≡ n = omega arith in rw e (omega arith)
+  by-grows (suc d) n a r rs =
+      let e : suc d + n ≡ suc (d + n) = omega arith in
+      rw (e, by-next (d + n) a r rs) (omega (arith, by-grows d n a r rs, met-longer (foundBy (d + n) a g r rs) r (a + (d + n))))
 
   found-by : (n : ℕ) {i a : ℕ} {rs : List A} (r : A) → Found i a rs → rowAt g rs i ≡ r → i < length rs → a + n ≡ g .letters
       → Found i (g .letters) (foundBy n a g r rs)
@@ -210,12 +242,16 @@ module _ {A : Type 0} (g : Plan A) (law : SameIsEqual g) where
           ⊎-elim (λ l. by (ltb j i) (λ e. inl (ltb-true j i e)) (λ e. inr (omega (arith, ltb-false j i e), lb))) (λ p. absurd (omega arith))
           h
 
-  from-on : (n i c : ℕ) (rs : List A) → ltb i (length rs) && leb (length rs) c ≡ true
+  pub from-on : (n i c : ℕ) (rs : List A) → ltb i (length rs) && leb (length rs) c ≡ true
       → foundFrom (suc n) i g c rs ≡ foundFrom n (suc i) g c (foundBy (g .letters) 0 g (rowAt g rs i) rs)
   from-on n i c rs e = rw (e, foundFrom)
 
   from-end : (n i c : ℕ) (rs : List A) → ltb i (length rs) && leb (length rs) c ≡ false → foundFrom (suc n) i g c rs ≡ rs
   from-end n i c rs e = rw (e, foundFrom)
+
+  pub from-stop : (n i c : ℕ) (rs : List A) → ltb i (length rs) && leb (length rs) c ≡ false → foundFrom n i g c rs ≡ rs
+  from-stop zero i c rs e = refl
+  from-stop (suc n) i c rs e = from-end n i c rs e
 
   -- the rows found, all of them read unless there are too many
   record Explored (c : ℕ) (rs : List A) : Type 0 where

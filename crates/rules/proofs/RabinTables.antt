@@ -4,6 +4,7 @@
 --     moved-ordering       a move keeps an ordering
 --     reached-ordering     every reachable record is an ordering of the pairs that count in its component, for any number of pairs
 --     pair-counts          a pair that a closed walk satisfies counts where the walk runs
+--     table-same           sameness of a table's rows is equality
 --     table-rows           the rows of a table's translation are exactly the reachable ones, each once, in order of discovery
 --     rabin-lawful         all that a construction must show
 use mathlib.Core.Path.{_≡_, refl, sym, ap, ap₂, _∙_, fun-ext}
@@ -17,7 +18,7 @@ use Rattle.rules.specs.Basics.{pick, any, SameSet, anyBelow, isIn, occur
 use Rattle.rules.specs.Systems.{System, together, isInside, Path}
 use Rattle.rules.specs.Runs.{Taken, passFrom}
 use Rattle.rules.specs.Records.{Marks, Rearranges, asTheyStood, moved, priority, movedAlong, largestPriority, satisfied, sameOrder}
-use Rattle.rules.specs.Rows.{Row, Reached, RowsAre}
+use Rattle.rules.specs.Rows.{Row, Reached, RowsAre, SameIsEqual}
 use Rattle.rules.specs.Constructions.{memoryAfter, largestAlong, Lawful}
 use Rattle.rules.specs.Tables.{Table, prohibits, requires, systemOf, countsBy, counts, rising, isCounted, IsOrdering, marksOf, recordKeeper, tablePlan}
 use Rattle.rules.specs.Judges.{satisfiesPair, satisfies}
@@ -183,9 +184,13 @@ module _ (t : Table) where
             λ q o a w p f closed. ap isEven (largest-along (a ∷ w) q o) ∙ closed-walk asTheyStood stood-rearranges (marksOf t q a) (marksAlong (s .go q a) w) o (sym (memory-along (a ∷ w) q o) ∙ closed) ∙ some-satisfied q a w o p f;
       }
 
+  -- sameness of a table's rows is equality
+  pub table-same : SameIsEqual (tablePlan t)
+  table-same = plan-same s (t .start) (recordKeeper t) same-order-equal same-order-refl
+
   -- the rows of a table are exactly the reachable ones
   pub table-rows : (c : ℕ) → RowsAre (tablePlan t) c
-  table-rows c = rows-view (tablePlan t) (plan-same s (t .start) (recordKeeper t) same-order-equal same-order-refl) c
+  table-rows c = rows-view (tablePlan t) table-same c
 
   -- every reachable record is an ordering
   pub reached-ordering : t .start < t .states → {r : Row (List ℕ)} → Reached (tablePlan t) r → IsOrdering t (r .source) (r .memory)

@@ -1,9 +1,9 @@
 -- Where the cells of a table that is taken stand among its bytes.
 --     cell-within, row-within       a cell's number is below the number of cells; the cells before a row
 --     targetAt, target-within, target-byte         the place of the byte that says where q goes by a, and that byte
---     requiredAt, required-within, counts-byte     the place of the required marks of the transition of q by a, whose bits say which pairs
---                                                  it makes count
---     counts-below                  they have no bit above pair k
+--     prohibitedAt, prohibited-within, prohibits-byte     the place of that transition's prohibited marks, and what their bits say
+--     requiredAt, required-within, counts-byte     the place of its required marks, whose bits say which pairs it makes count
+--     prohibits-below, counts-below      they have no bit above pair k
 use mathlib.Core.Path.{_≡_, refl, _∙_}
 use mathlib.Core.Bool.{false, not, _&&_}
 use mathlib.Core.List.{List, [], _∷_}
@@ -17,7 +17,7 @@ use borrow.Author.Tests.{ltb-true, not-false}
 use Rattle.rules.specs.Basics.{bit}
 use Rattle.rules.specs.Limits.{headerSize, noState}
 use Rattle.rules.specs.Systems.{cell}
-use Rattle.rules.specs.Tables.{Table, tableOf, targetOf, markFault, marksFault, countsBy}
+use Rattle.rules.specs.Tables.{Table, tableOf, targetOf, prohibits, markFault, marksFault, countsBy}
 use Rattle.rules.proofs.Bools.{or-none, and-parts}
 use Rattle.rules.proofs.Refusals.{taken-table}
 use Rattle.tables.specs.Parts.{Taken}
@@ -35,17 +35,20 @@ getD-any (x ∷ xs) zero d e l = refl
 getD-any (x ∷ xs) (suc i) d e l = getD-any xs i d e (omega arith)
 
 -- marks that are taken have no bit above pair k
-marks-below : (k : ℕ) (ts ms : List ℕ) (c : ℕ) → marksFault k ts ms ≡ false → c < length ts → getD ms (suc (2 * c)) 0 < 2 ^ k
+marks-below : (k : ℕ) (ts ms : List ℕ) (c : ℕ) → marksFault k ts ms ≡ false → c < length ts
+    → (getD ms (2 * c) 0 < 2 ^ k) × (getD ms (suc (2 * c)) 0 < 2 ^ k)
 marks-below k [] ms c h l = absurd (not-suc-le-zero l)
 marks-below k (x ∷ ts) ms zero h l =
     let a = or-none (markFault k x (getD ms 0 0) (getD ms 1 0)) (marksFault k ts (drop 2 ms)) h in
     let b = or-none (not (ltb (getD ms 0 0) (2 ^ k) && ltb (getD ms 1 0) (2 ^ k))) (eqb x noState && not (eqb (getD ms 0 0) 0 && eqb (getD ms 1 0) 0)) (a .0) in
     let d = and-parts (ltb (getD ms 0 0) (2 ^ k)) (ltb (getD ms 1 0) (2 ^ k)) (not-false _ (b .0)) in
-    ltb-true (getD ms 1 0) (2 ^ k) (d .1)
+    (ltb-true (getD ms 0 0) (2 ^ k) (d .0), ltb-true (getD ms 1 0) (2 ^ k) (d .1))
 marks-below k (x ∷ ts) ms (suc c) h l =
     let a = or-none (markFault k x (getD ms 0 0) (getD ms 1 0)) (marksFault k ts (drop 2 ms)) h in
-    let e : 2 + suc (2 * c) ≡ suc (2 * suc c) = omega arith in
-    rw (getD-drop 2 ms (suc (2 * c)) 0, e) at (marks-below k ts (drop 2 ms) c (a .1) (omega arith))
+    let e : 2 + 2 * c ≡ 2 * suc c = omega arith in
+    let f : 2 + suc (2 * c) ≡ suc (2 * suc c) = omega arith in
+    let both = marks-below k ts (drop 2 ms) c (a .1) (omega arith) in
+    (rw (getD-drop 2 ms (2 * c) 0, e) at (both .0), rw (getD-drop 2 ms (suc (2 * c)) 0, f) at (both .1))
 
 module _ (bs : List ℕ) where
   abbrev t : Table
@@ -54,12 +57,19 @@ module _ (bs : List ℕ) where
   abbrev cells : ℕ
   cells = t .states * t .letters
 
-  -- the places of the target and of the required marks of the transition of q by a
+  -- the places of the target and of the marks of the transition of q by a
   abbrev pub targetAt : ℕ → ℕ → ℕ
   targetAt q a = headerSize + q * t .letters + a
 
+  abbrev pub prohibitedAt : ℕ → ℕ → ℕ
+  prohibitedAt q a = headerSize + cells + 2 * (q * t .letters) + 2 * a
+
   abbrev pub requiredAt : ℕ → ℕ → ℕ
   requiredAt q a = headerSize + cells + 2 * (q * t .letters) + (2 * a + 1)
+
+  mark-byte : (c at : ℕ) → c < 2 * cells → headerSize + cells + c ≡ at → getD (t .marks) c 0 ≡ getD bs at 0
+  mark-byte c at l e =
+      getD-take (2 * cells) (drop (headerSize + cells) bs) c 0 l ∙ getD-drop (headerSize + cells) bs c 0 ∙ rw e
 
   module _ (taken : Taken bs) (q a : ℕ) (l : q < t .states) (r : a < t .letters) where
     within : cell (t .letters) q a < cells
@@ -75,19 +85,31 @@ module _ (bs : List ℕ) where
         getD-take cells (drop headerSize bs) c (t .states) within ∙ getD-drop headerSize bs c (t .states)
         ∙ rw e (getD-any bs (targetAt q a) (t .states) 0 target-within)
 
+    pub prohibited-within : prohibitedAt q a < length bs
+    prohibited-within = omega (arith, within, taken-table bs taken .exact)
+
     pub required-within : requiredAt q a < length bs
     required-within = omega (arith, within, taken-table bs taken .exact)
 
+    prohibited-byte : getD (t .marks) (2 * cell (t .letters) q a) 0 ≡ getD bs (prohibitedAt q a) 0
+    prohibited-byte = mark-byte (2 * cell (t .letters) q a) (prohibitedAt q a) (omega (arith, within)) (omega arith)
+
     required-byte : getD (t .marks) (suc (2 * cell (t .letters) q a)) 0 ≡ getD bs (requiredAt q a) 0
-    required-byte =
-        let c = suc (2 * cell (t .letters) q a) in
-        let e : headerSize + cells + c ≡ requiredAt q a = omega arith in
-        getD-take (2 * cells) (drop (headerSize + cells) bs) c 0 (omega (arith, within)) ∙ getD-drop (headerSize + cells) bs c 0 ∙ rw e
+    required-byte = mark-byte (suc (2 * cell (t .letters) q a)) (requiredAt q a) (omega (arith, within)) (omega arith)
+
+    pub prohibits-byte : (i : ℕ) → bit i (getD bs (prohibitedAt q a) 0) ≡ prohibits t q a (suc i)
+    prohibits-byte i = let e : suc i - 1 ≡ i = omega arith in rw (e, prohibited-byte)
 
     pub counts-byte : (i : ℕ) → bit i (getD bs (requiredAt q a) 0) ≡ countsBy t (suc i) q a
     counts-byte i = let e : suc i - 1 ≡ i = omega arith in rw (e, required-byte)
 
-    pub counts-below : getD bs (requiredAt q a) 0 < 2 ^ t .pairs
-    counts-below =
+    marks-small : (getD (t .marks) (2 * cell (t .letters) q a) 0 < 2 ^ t .pairs) × (getD (t .marks) (suc (2 * cell (t .letters) q a)) 0 < 2 ^ t .pairs)
+    marks-small =
         let size : cell (t .letters) q a < length (t .targets) = simp (length-take, length-drop) (omega (arith, within, taken-table bs taken .exact)) in
-        rw required-byte at (marks-below (t .pairs) (t .targets) (t .marks) (cell (t .letters) q a) (taken-table bs taken .marks-taken) size)
+        marks-below (t .pairs) (t .targets) (t .marks) (cell (t .letters) q a) (taken-table bs taken .marks-taken) size
+
+    pub prohibits-below : getD bs (prohibitedAt q a) 0 < 2 ^ t .pairs
+    prohibits-below = rw prohibited-byte at (marks-small .0)
+
+    pub counts-below : getD bs (requiredAt q a) 0 < 2 ^ t .pairs
+    counts-below = rw required-byte at (marks-small .1)

@@ -1,0 +1,12 @@
+-- The laws that the proofs of the functions cite.
+pub mod Chains
+pub mod Rests
+pub mod Clearing
+pub mod RowKeys
+pub mod CellWords
+pub mod CellSteps
+pub mod Settling
+pub mod Reading
+pub mod Letters
+pub mod Rounds
+pub mod Promises

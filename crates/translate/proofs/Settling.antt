@@ -1,0 +1,139 @@
+-- A key is looked up and, where it is absent and there is room, its row is filed.
+--     number-most, number-found, number-absent     the number of a key among keys of which none stands twice
+--     filed-none                      no row is filed yet
+--     settled-found, settled-full, settled-added     the three outcomes
+use mathlib.Core.Path.{_≡_, refl, sym, _∙_}
+use mathlib.Core.Bool.{true, false}
+use mathlib.Core.List.{List}
+use Prim.Native.Nat.{ℕ, suc, _<_, _≤_}
+use native.Mathlib.Omega.{arith}
+use lib.Dec.{eqb, ltb}
+use lib.ListN.{length, getD, set, take, length-set}
+use lib.Seq.{getD-set-same, getD-set-other, getD-take, length-take-le}
+use borrow.Author.Tests.{eqb-true, eqb-false, eq-eqb, ne-eqb, ltb-true, ltb-false}
+use Rattle.rules.specs.Limits.{maxRows}
+use Rattle.rules.specs.Rows.{placeOf}
+use Rattle.rules.proofs.Bools.{by}
+use Rattle.rules.proofs.Exploration.{place-found, place-least, place-most}
+use Rattle.translate.specs.Index.{slots, Apart, numberAmong}
+use Rattle.translate.specs.Keys.{sourceIn, numberIn}
+use Rattle.translate.specs.Filing.{Noted, Filed, RowAdded, Settles}
+use Rattle.translate.proofs.Chains.{indexed-none, indexed-more}
+use Rattle.translate.proofs.Rests.{beyond-none, beyond-set}
+
+-- ---- the number of a key
+module _ (n key : ℕ) (keys : List ℕ) (room : n ≤ length keys) where
+  number-passes : numberAmong key n keys < n → getD keys (numberAmong key n keys) 0 ≡ key
+  number-passes l =
+      let h = place-found (λ x. eqb key x) 0 (take n keys) (rw (length-take-le n keys room) l) in
+      sym (eqb-true key (getD keys (numberAmong key n keys) 0) (rw (getD-take n keys (numberAmong key n keys) 0 l) at h))
+
+  number-least : (i : ℕ) → i < n → getD keys i 0 ≡ key → numberAmong key n keys ≤ i
+  number-least i l e =
+      place-least (λ x. eqb key x) 0 (take n keys) i (rw (length-take-le n keys room) l)
+      (rw (getD-take n keys i 0 l) (eq-eqb key (getD keys i 0) (sym e)))
+
+  pub number-found : Apart n keys → (i : ℕ) → i < n → getD keys i 0 ≡ key → i ≡ numberAmong key n keys
+  number-found apart i l e =
+      let least = number-least i l e in
+      by
+      (eqb i (numberAmong key n keys))
+      (λ h. eqb-true i (numberAmong key n keys) h)
+      (λ h. let d = eqb-false i (numberAmong key n keys) h in absurd (apart (numberAmong key n keys) i (omega arith) l (number-passes (omega arith) ∙ sym e)))
+
+  pub number-most : numberAmong key n keys ≤ n
+  number-most = rw (length-take-le n keys room) at (place-most (λ x. eqb key x) (take n keys))
+
+  pub number-absent : ((i : ℕ) → i < n → getD keys i 0 ≡ key → ⊥) → n ≡ numberAmong key n keys
+  number-absent absent =
+      by
+      (ltb (numberAmong key n keys) n)
+      (λ h. let l = ltb-true (numberAmong key n keys) n h in absurd (absent (numberAmong key n keys) l (number-passes l)))
+      (λ h. omega (arith, ltb-false (numberAmong key n keys) n h, number-most))
+
+-- ---- one row more
+noted-more : (f : ℕ → ℕ) (n key : ℕ) (keys xs : List ℕ) → n < length keys → n < length xs → Noted f n keys xs
+    → Noted f (suc n) (set keys n key) (set xs n (f key))
+noted-more f n key keys xs lk lx h i l =
+    by
+    (eqb i n)
+    (λ e. rw (eqb-true i n e, getD-set-same keys n key 0 lk) (getD-set-same xs n (f key) 0 lx))
+    (λ e. let d = eqb-false i n e in rw (getD-set-other keys n i key 0 d, getD-set-other xs n i (f key) 0 d) (h i (omega arith)))
+
+apart-more : (n key : ℕ) (keys : List ℕ) → n < length keys → ((i : ℕ) → i < n → getD keys i 0 ≡ key → ⊥) → Apart n keys
+    → Apart (suc n) (set keys n key)
+apart-more n key keys room absent apart i j l lj e =
+    let low = getD-set-other keys n i key 0 (λ (z : i ≡ n). omega arith) in
+    by
+    (eqb j n)
+    (λ h. absent i (omega (arith, eqb-true j n h)) (sym low ∙ e ∙ (rw (eqb-true j n h) (getD-set-same keys n key 0 room))))
+    (λ h. let d = eqb-false j n h in apart i j l (omega arith) (sym low ∙ e ∙ getD-set-other keys n j key 0 d))
+
+pub filed-none : (c : ℕ) (keys heads links ss es : List ℕ) → c ≤ maxRows → c ≤ length keys → slots ≤ length heads → c ≤ length links → c ≤ length ss
+    → c ≤ length es → ((s : ℕ) → getD heads s 0 ≡ 0) → Filed c 0 keys heads links ss es
+filed-none c keys heads links ss es most a b d e f z =
+    record {
+      few = omega arith;
+      most = most;
+      key-room = a;
+      head-room = b;
+      link-room = d;
+      state-room = e;
+      number-room = f;
+      apart = λ i j l lj. absurd (omega arith);
+      indexed = indexed-none keys heads links z;
+      states = λ i l. absurd (omega arith);
+      numbers = λ i l. absurd (omega arith);
+    }
+
+module _ (c key n : ℕ) (keys heads links ss es : List ℕ) (f : Filed c n keys heads links ss es) where
+  abbrev Absent-key : Type 0
+  Absent-key = (i : ℕ) → i < n → getD keys i 0 ≡ key → ⊥
+
+  key-places : n ≤ length keys
+  key-places = omega (arith, f .few, f .key-room)
+
+  pub settled-found : (i : ℕ) → i < n → getD keys i 0 ≡ key → Settles c key n keys keys heads links ss ss es es i
+  settled-found i l e =
+      let old = ne-eqb i n (λ z. omega arith) in
+      record {
+        number = number-found n key keys key-places (f .apart) i l e;
+        filed = λ h. rw old f;
+        key-array = λ h. rw old;
+        state-rest = beyond-none c ss;
+        number-rest = beyond-none c es;
+      }
+
+  pub settled-full : c ≤ n → Absent-key → Settles c key n keys keys heads links ss ss es es n
+  settled-full l absent =
+      let new = eq-eqb n n refl in
+      record {
+        number = number-absent n key keys key-places absent;
+        filed = λ h. absurd (omega (arith, rw new at h));
+        key-array = λ h. absurd (omega (arith, rw new at h));
+        state-rest = beyond-none c ss;
+        number-rest = beyond-none c es;
+      }
+
+  module _ (keys′ heads′ links′ ss′ es′ : List ℕ) (x : RowAdded key n keys keys′ heads heads′ links links′ ss ss′ es es′) where
+    filed-more : n < c → Absent-key → Filed c (suc n) keys′ heads′ links′ ss′ es′
+    filed-more l absent =
+        let lk : n < length keys = omega (arith, f .key-room) in
+        let lh = f .head-room in
+        let ll : n < length links = omega (arith, f .link-room) in
+        let ls : n < length ss = omega (arith, f .state-room) in
+        let le : n < length es = omega (arith, f .number-room) in
+        rw
+        (x .key-array, x .head-array, x .link-array, x .state-array, x .number-array)
+        (record { few = l; most = f .most; key-room = simp length-set (f .key-room); head-room = simp length-set lh; link-room = simp length-set (f .link-room); state-room = simp length-set (f .state-room); number-room = simp length-set (f .number-room); apart = apart-more n key keys lk absent (f .apart); indexed = indexed-more n key keys heads links lk lh ll (f .indexed); states = noted-more sourceIn n key keys ss lk ls (f .states); numbers = noted-more numberIn n key keys es lk le (f .numbers) })
+
+    pub settled-added : n < c → Absent-key → Settles c key n keys keys′ heads′ links′ ss ss′ es es′ n
+    settled-added l absent =
+        let new = eq-eqb n n refl in
+        record {
+          number = number-absent n key keys key-places absent;
+          filed = λ h. rw new (filed-more l absent);
+          key-array = λ h. rw new (x .key-array);
+          state-rest = rw (x .state-array) (beyond-set c ss n _ l);
+          number-rest = rw (x .number-array) (beyond-set c es n _ l);
+        }

@@ -1,0 +1,56 @@
+-- `translate::clear::clear_u16` meets its contract. The invariant: the places from `from` up to i are cleared.
+use Prim.Native.Nat.{_-_, _≤_}
+use native.Mathlib.Nat.{le-antisymm, le-refl}
+use native.Mathlib.Omega.{arith}
+use Rattle.translate.specs.Arrays.{Cleared}
+use Rattle.translate.proofs.Clearing.{cleared-none, cleared-more}
+use Rattle.translate.proofs.clear.clear_u16.Statement.{statement}
+use Rattle.translate.proofs.clear.clear_u16.Tie as tie
+
+abbrev Inv-loop : tie.InvT-loop
+Inv-loop array₀ from to i₀ array i = (from ≤ i) × (i ≤ to) × Cleared from i array₀ array
+
+abbrev μ-loop : tie.MeasureT-loop
+μ-loop array₀ from to i₀ array i = to - i
+
+loop-holds : tie.Need-loop-holds Inv-loop μ-loop
+loop-holds c = (le-refl (c .args .from), c .pre .0, cleared-none (c .args .from) (c .args .array .now))
+
+mul-array : tie.Need-mul-array Inv-loop μ-loop
+mul-array c = omega arith
+
+slice-write-array : tie.Need-slice-write-array Inv-loop μ-loop
+slice-write-array c = omega (arith, c .before .loop .inv .2 .size, c .before .before .pre .1)
+
+add-i : tie.Need-add-i Inv-loop μ-loop
+add-i c = omega arith
+
+loop-less : tie.Need-loop-less Inv-loop μ-loop
+loop-less c = omega arith
+
+loop-again : tie.Need-loop-again Inv-loop μ-loop
+loop-again c =
+    let i = c .before .loop in
+    let f = i .inv .2 in
+    (omega arith, omega arith, cleared-more (c .before .before .args .from) (i .i) (c .before .before .args .array .now) (i .array) (i .inv .0) (omega (arith, c .before .before .pre .1)) f)
+
+same-length : tie.Need-same-length Inv-loop μ-loop
+same-length c = c .before .loop .inv .2 .size
+
+returns : tie.Need-returns Inv-loop μ-loop
+returns c = let i = c .before .loop in rw (le-antisymm (i .inv .1) (c .loop-test .left)) at (i .inv .2)
+
+pub clear-u16-spec : {M : Type 1} → statement M
+clear-u16-spec =
+    tie.close
+    (tie.spec
+    Inv-loop
+    μ-loop
+    loop-holds
+    mul-array
+    slice-write-array
+    add-i
+    loop-less
+    loop-again
+    same-length
+    returns)

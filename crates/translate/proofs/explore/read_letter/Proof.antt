@@ -1,0 +1,306 @@
+-- `translate::explore::read_letter` meets its contract: a missing transition, and one that is there, each by its law of `Letters`.
+use mathlib.Core.Path.{_≡_, refl, sym, ap, _∙_, subst⁻¹}
+use mathlib.Core.Bool.{true, false}
+use mathlib.Core.List.{List}
+use Prim.Native.Nat.{ℕ, suc, _+_, _*_, _/_, _%_, _<_, _≤_}
+use native.Mathlib.Nat.{mul-le-mul}
+use native.Mathlib.Numerals.{add-one}
+use native.Mathlib.Omega.{arith}
+use borrow.Author.Needs.{needs}
+use borrow.Author.Tests.{eq-eqb, ne-eqb}
+use lib.Dec.{ltb}
+use lib.ListN.{length, getD}
+use Rattle.rules.specs.Limits.{maxRows, maxLetters}
+use Rattle.rules.specs.Systems.{cell}
+use Rattle.rules.specs.Tables.{tableOf}
+use Rattle.rules.proofs.Refusals.{TakenTable, taken-table}
+use Rattle.tables.proofs.Cells.{cell-within}
+use Rattle.translate.specs.Keys.{span, sourceIn, rowKey, keyRow, IsRow, IsKey}
+use Rattle.translate.specs.Cells.{crossingKind, targetIn, cellWord}
+use Rattle.translate.specs.Exploring.{planIn, lettersOf, LetterSays}
+use Rattle.translate.specs.Filing.{rowsAfter}
+use Rattle.rules.specs.Rows.{Row, Step}
+use Rattle.translate.proofs.RowKeys.{row-is-key, key-below}
+use Rattle.translate.proofs.Settling.{number-most}
+use Rattle.translate.proofs.Letters.{key-missing, key-there, key-priority, key-next, letter-missing, letter-there}
+use Rattle.translate.proofs.explore.read_letter.Statement.{statement}
+use Rattle.translate.proofs.explore.read_letter.Tie as tie
+
+-- what holds at the entry
+module _ (c : tie.Start) where
+  abbrev bytes : List ℕ
+  bytes = c .args .table .now
+
+  abbrev v : ℕ
+  v = getD (c .args .keys .now) (c .args .i) 0
+
+  table : TakenTable bytes
+  table = taken-table bytes (c .pre .0)
+
+  code : IsKey (tableOf bytes) v
+  code = c .pre .6 .coded (c .args .i) (c .pre .3)
+
+  state : sourceIn (c .args .key) < tableOf bytes .states
+  state = subst⁻¹ (λ (x : ℕ). sourceIn x < tableOf bytes .states) (c .pre .5) (code .is-row .state)
+
+  in-cells : cell (lettersOf bytes) (sourceIn (c .args .key)) (c .args .a) < tableOf bytes .states * lettersOf bytes
+  in-cells = cell-within (tableOf bytes .states) (lettersOf bytes) (sourceIn (c .args .key)) (c .args .a) state (c .pre .4)
+
+  in-rows : cell (lettersOf bytes) (c .args .i) (c .args .a) < c .args .capacity * lettersOf bytes
+  in-rows =
+      cell-within (c .args .capacity) (lettersOf bytes) (c .args .i) (c .args .a) (omega (arith, c .pre .3, c .pre .6 .filed .few)) (c .pre .4)
+
+  few-rows : c .args .capacity * lettersOf bytes ≤ maxRows * maxLetters
+  few-rows = mul-le-mul (c .pre .6 .filed .most) (table .sizes .most-letters)
+
+  abbrev word : ℕ
+  word = getD (c .args .cells .now) (cell (lettersOf bytes) (sourceIn (c .args .key)) (c .args .a)) 0
+
+  word-is : word ≡ cellWord (tableOf bytes) (sourceIn (c .args .key)) (c .args .a)
+  word-is = c .pre .1 .entry (sourceIn (c .args .key)) (c .args .a) (c .pre .4) in-cells
+
+-- the transition is there
+module _ (c : tie.Else1) where
+  abbrev s : tie.Start
+  s = c .before .before .before .before .before .before .before .before .before .before .before .before .before .before
+
+  abbrev x : Step (Row (List ℕ))
+  x = planIn (bytes s) .step (keyRow (v s)) (s .args .a)
+
+  present : ltb (word s) crossingKind ≡ false
+  present = sym (c .before .is-missing .ensures) ∙ c .if1 .left
+
+  there : (x .there ≡ true) × (targetIn (word s) < tableOf (bytes s) .states) × IsRow (tableOf (bytes s)) (x .to)
+  there = key-there (bytes s) (s .pre .0) (s .args .a) (s .pre .4) _ _ _ (s .pre .5) (code s) (word-is s) present
+
+-- its target's key is worked out
+module _ (c : tie.After-next-key) where
+  abbrev o : tie.Else1
+  o = c .before .before .before .before
+
+  next-is : c .next-key .result ≡ rowKey (x o .to)
+  next-is = c .next-key .ensures ∙ key-next (bytes (s o)) (s o .pre .0) (s o .args .a) (s o .pre .4) _ _ _ (s o .pre .5) (code (s o)) (word-is (s o)) (present o) (s o .args .entries .now) (s o .pre .2)
+
+  priority-is : c .before .priority .result ≡ x o .prio
+  priority-is =
+      (rw (c .before .before .before .prohibited-in .ensures, c .before .before .required-in .ensures) at (c .before .priority .ensures))
+      ∙ key-priority (bytes (s o)) (s o .pre .0) (s o .args .a) (s o .pre .4) _ _ _ (s o .pre .5) (code (s o)) (word-is (s o)) (present o)
+
+  next-below : c .next-key .result < 256 * span
+  next-below =
+      let t = tableOf (bytes (s o)) in
+      subst⁻¹ (λ (z : ℕ). z < 256 * span) next-is
+      (key-below t (rowKey (x o .to)) (table (s o) .sizes .most-states) (row-is-key t (table (s o) .sizes .most-pairs) (x o .to) (there o .2)))
+
+-- the target's row is settled
+module _ (c : tie.After-slice-known12) where
+  abbrev nk : tie.After-next-key
+  nk = c .before .before .before .before .before .before .before .before .before .before .before .before .before .before .before .before
+
+  abbrev e : tie.After-settle
+  e = c .before .before .before .before .before .before .before .before .before .before
+
+  number-few : e .settle .result ≤ s (o nk) .args .n
+  number-few = omega (arith, e .settle .ensures .number, number-most (s (o nk) .args .n) (nk .next-key .result) (s (o nk) .args .keys .now) (omega (arith, s (o nk) .pre .6 .filed .few, s (o nk) .pre .6 .filed .key-room)))
+
+shared-slice-read-m : tie.Need-shared-slice-read-m
+shared-slice-read-m c =
+    let s = c .before .before .before .before .before .before .before .before .before .before .before in omega (arith, table s)
+
+cast-m : tie.Need-cast-m
+cast-m c =
+    let s = c .before .before .before .before .before .before .before .before .before .before .before in omega (arith, table s)
+
+cast-q : tie.Need-cast-q
+cast-q c = search needs
+
+mul-word : tie.Need-mul-word
+mul-word c =
+    let s = c .before .before .before .before .before .before .before .before .before .before .before in omega (arith, table s, in-cells s)
+
+add-word : tie.Need-add-word
+add-word c =
+    let s = c .before .before .before .before .before .before .before .before .before .before .before in omega (arith, table s, in-cells s)
+
+mul-word-2 : tie.Need-mul-word-2
+mul-word-2 c =
+    let s = c .before .before .before .before .before .before .before .before .before .before .before in omega (arith, table s, in-cells s)
+
+shared-slice-read-word : tie.Need-shared-slice-read-word
+shared-slice-read-word c =
+    let s = c .before .before .before .before .before .before .before .before .before .before .before .before in omega (arith, in-cells s, s .pre .1 .enough)
+
+mul-p : tie.Need-mul-p
+mul-p c =
+    let s = c .before .before .before .before .before .before .before .before .before .before .before .before in omega (arith, in-rows s, few-rows s)
+
+add-p : tie.Need-add-p
+add-p c =
+    let s = c .before .before .before .before .before .before .before .before .before .before .before .before in omega (arith, in-rows s, few-rows s)
+
+is-missing-requires : tie.Need-is-missing-requires
+is-missing-requires c κs = search needs
+
+mul-targets : tie.Need-mul-targets
+mul-targets c =
+    let s = c .before .before .before .before .before .before .before .before .before .before .before .before .before .before in omega (arith, in-rows s, few-rows s)
+
+slice-write-targets : tie.Need-slice-write-targets
+slice-write-targets c =
+    let s = c .before .before .before .before .before .before .before .before .before .before .before .before .before .before in omega (arith, in-rows s, s .pre .6 .target-room)
+
+slice-write-priorities : tie.Need-slice-write-priorities
+slice-write-priorities c =
+    let s = c .before .before .before .before .before .before .before .before .before .before .before .before .before .before in omega (arith, in-rows s, s .pre .6 .priority-room)
+
+same-length : tie.Need-same-length
+same-length c = search needs
+
+same-length-2 : tie.Need-same-length-2
+same-length-2 c = search needs
+
+returns : tie.Need-returns
+returns c =
+    let s = c .before .before .before .before .before .before .before .before .before .before .before .before .before .before in
+    let gone = key-missing (bytes s) (s .pre .0) (s .args .a) (s .pre .4) _ _ _ (s .pre .5) (code s) (word-is s) (sym (c .before .is-missing .ensures) ∙ c .if1 .taken) in
+    letter-missing (bytes s) (s .pre .0) _ _ _ _ _ _ _ _ _ _ _ (s .pre .3) (s .pre .4) (s .pre .6) (gone .0) (gone .1)
+
+prohibited-in-requires : tie.Need-prohibited-in-requires
+prohibited-in-requires c κs = search needs
+
+required-in-requires : tie.Need-required-in-requires
+required-in-requires c κs = search needs
+
+priority-requires : tie.Need-priority-requires
+priority-requires c κs = search needs
+
+slice-write-priorities-2 : tie.Need-slice-write-priorities-2
+slice-write-priorities-2 c =
+    let s = c .before .before .before .before .before .before .before .before .before .before .before .before .before .before .before .before .before in omega (arith, in-rows s, s .pre .6 .priority-room)
+
+next-key-requires : tie.Need-next-key-requires
+next-key-requires c κs =
+    let o : tie.Else1 = c .before .before .before in (omega (arith, there o .1, s o .pre .2 .enough), omega arith)
+
+settle-requires : tie.Need-settle-requires
+settle-requires c κs =
+    (c .before .before .before .before .before .before .before .before .before .before .before .before .before .before .before .before .before .before .before .before .before .before .before .pre .6 .filed, next-below (c .before .before .before .before .before))
+
+cast-targets : tie.Need-cast-targets
+cast-targets c =
+    let s = c .before .before .before .before .before .before .before .before .before .before .before .before .before .before .before .before .before .before .before .before .before .before .before .before .before .before .before .before .before .before .before .before .before .before in omega (arith, number-few c, s .pre .6 .filed .few, s .pre .6 .filed .most)
+
+mul-targets-2 : tie.Need-mul-targets-2
+mul-targets-2 c =
+    let s = c .before .before .before .before .before .before .before .before .before .before .before .before .before .before .before .before .before .before .before .before .before .before .before .before .before .before .before .before .before .before .before .before .before .before in omega (arith, in-rows s, few-rows s)
+
+slice-write-targets-2 : tie.Need-slice-write-targets-2
+slice-write-targets-2 c =
+    let s = c .before .before .before .before .before .before .before .before .before .before .before .before .before .before .before .before .before .before .before .before .before .before .before .before .before .before .before .before .before .before .before .before .before .before in omega (arith, in-rows s, s .pre .6 .target-room)
+
+add-result : tie.Need-add-result
+add-result c =
+    let s = c .before .before .before .before .before .before .before .before .before .before .before .before .before .before .before .before .before .before .before .before .before .before .before .before .before .before .before .before .before .before .before .before .before .before .before in omega (arith, s .pre .6 .filed .few, s .pre .6 .filed .most)
+
+same-length-3 : tie.Need-same-length-3
+same-length-3 c = search needs
+
+same-length-4 : tie.Need-same-length-4
+same-length-4 c = search needs
+
+same-length-5 : tie.Need-same-length-5
+same-length-5 c = search needs
+
+same-length-6 : tie.Need-same-length-6
+same-length-6 c = search needs
+
+same-length-7 : tie.Need-same-length-7
+same-length-7 c = search needs
+
+same-length-8 : tie.Need-same-length-8
+same-length-8 c = search needs
+
+same-length-9 : tie.Need-same-length-9
+same-length-9 c = search needs
+
+returns-2 : tie.Need-returns-2
+returns-2 c =
+    let k = c .before in
+    let n = nk k in
+    let t = s (o n) in
+    letter-there (bytes t) (t .pre .0) _ _ _ _ _ _ _ _ _ _ _ (t .pre .3) (t .pre .4) (t .pre .6) _ _ _ _ _ _ _ _ (e k .settle .ensures) (there (o n) .0) (there (o n) .2) (next-is n) (priority-is n) _ (rw (eq-eqb _ _ (c .if2 .taken)) (add-one _))
+
+same-length-10 : tie.Need-same-length-10
+same-length-10 c = search needs
+
+same-length-11 : tie.Need-same-length-11
+same-length-11 c = search needs
+
+same-length-12 : tie.Need-same-length-12
+same-length-12 c = search needs
+
+same-length-13 : tie.Need-same-length-13
+same-length-13 c = search needs
+
+same-length-14 : tie.Need-same-length-14
+same-length-14 c = search needs
+
+same-length-15 : tie.Need-same-length-15
+same-length-15 c = search needs
+
+same-length-16 : tie.Need-same-length-16
+same-length-16 c = search needs
+
+returns-3 : tie.Need-returns-3
+returns-3 c =
+    let k = c .before in
+    let n = nk k in
+    let t = s (o n) in
+    letter-there (bytes t) (t .pre .0) _ _ _ _ _ _ _ _ _ _ _ (t .pre .3) (t .pre .4) (t .pre .6) _ _ _ _ _ _ _ _ (e k .settle .ensures) (there (o n) .0) (there (o n) .2) (next-is n) (priority-is n) _ (rw (ne-eqb _ _ (c .if2 .left)))
+
+pub read-letter-spec : {M : Type 1} → statement M
+read-letter-spec =
+    tie.close
+    (tie.spec
+    shared-slice-read-m
+    cast-m
+    cast-q
+    mul-word
+    add-word
+    mul-word-2
+    shared-slice-read-word
+    mul-p
+    add-p
+    is-missing-requires
+    mul-targets
+    slice-write-targets
+    slice-write-priorities
+    same-length
+    same-length-2
+    returns
+    prohibited-in-requires
+    required-in-requires
+    priority-requires
+    slice-write-priorities-2
+    next-key-requires
+    settle-requires
+    cast-targets
+    mul-targets-2
+    slice-write-targets-2
+    add-result
+    same-length-3
+    same-length-4
+    same-length-5
+    same-length-6
+    same-length-7
+    same-length-8
+    same-length-9
+    returns-2
+    same-length-10
+    same-length-11
+    same-length-12
+    same-length-13
+    same-length-14
+    same-length-15
+    same-length-16
+    returns-3)

@@ -1,0 +1,216 @@
+-- `translate::translate_table` meets its contract: each return is one law of `Promises`, and demand 3 follows from it.
+use mathlib.Core.Path.{_≡_, sym, _∙_}
+use mathlib.Core.Bool.{false}
+use mathlib.Core.List.{List}
+use Prim.Native.Nat.{ℕ}
+use native.Mathlib.Omega.{arith}
+use borrow.Author.Needs.{needs}
+use Rattle.rules.specs.Tables.{tableOf, tableFault}
+use Rattle.rules.proofs.Refusals.{TakenTable, taken-table}
+use Rattle.tables.specs.Parts.{Taken, statesOf, Listed}
+use Rattle.tables.specs.Surveys.{insideLetters, countedPairs}
+use Rattle.translate.proofs.Promises.{tooShort, Room, has-room, room-kept, survey-fault, survey-listed, translate-refused, translate-short, translate-full, translate-done, promised}
+use Rattle.translate.proofs.translate_table.Statement.{statement}
+use Rattle.translate.proofs.translate_table.Tie as tie
+
+-- the table is surveyed
+module _ (c : tie.After-survey-table) where
+  abbrev start : tie.Start
+  start = c .before .before .before .before .before .before .before .before
+
+  table-refusal : c .survey-table .result ≡ tableFault (start .args .table .now)
+  table-refusal = c .survey-table .ensures .number ∙ survey-fault (start .args .table .now)
+
+-- the table is taken
+module _ (c : tie.Else1) where
+  abbrev survey : tie.After-survey-table
+  survey = c .before .before .before
+
+  abbrev bytes : List ℕ
+  bytes = start survey .args .table .now
+
+  is-taken : Taken bytes
+  is-taken = sym (table-refusal survey) ∙ c .if1 .left
+
+  checked : TakenTable bytes
+  checked = taken-table bytes is-taken
+
+  inside-listed : Listed (statesOf bytes) (insideLetters (tableOf bytes)) (survey .survey-table .last .1 .0)
+  inside-listed =
+      survey-listed bytes _ _ _ _ is-taken (c .if1 .left) (survey .survey-table .kept .1 .0) (survey .survey-table .ensures .inside-array)
+
+  counted-listed : Listed (statesOf bytes) (countedPairs (tableOf bytes)) (survey .survey-table .last .1 .1 .0)
+  counted-listed =
+      survey-listed bytes _ _ _ _ is-taken (c .if1 .left) (survey .survey-table .kept .1 .1 .0) (survey .survey-table .ensures .counted-array)
+
+-- the arrays are not too short
+module _ (c : tie.Else2) where
+  abbrev taken : tie.Else1
+  taken = c .before .before .before
+
+  abbrev given : tie.Start
+  given = start (survey taken)
+
+  fits : tooShort (bytes taken) (given .args .capacity) (given .args .targets .now) (given .args .priorities .now) (given .args .sources .now) (given .args .records .now) ≡ false
+  fits = sym (c .before .are-short .ensures) ∙ c .if2 .left
+
+  room : Room (bytes taken) (given .args .capacity) (given .args .targets .now) (given .args .priorities .now) (given .args .sources .now) (given .args .records .now)
+  room = has-room _ _ _ _ _ _ fits
+
+-- the rows have been looked for
+abbrev explored : tie.After-slice-known8 → tie.After-explore
+explored c = c .before .before .before .before .before .before .before .before
+
+abbrev tests : tie.After-explore → tie.Else2
+tests c = c .before .before .before .before .before .before .before .before .before .before .before .before .before .before .before .before
+
+slice-aggregate-survey-table : tie.Need-slice-aggregate-survey-table
+slice-aggregate-survey-table c = search needs
+
+slice-aggregate-survey-table-2 : tie.Need-slice-aggregate-survey-table-2
+slice-aggregate-survey-table-2 c = search needs
+
+survey-table-requires : tie.Need-survey-table-requires
+survey-table-requires c κs = search needs
+
+returns : tie.Need-returns
+returns c = promised (translate-refused _ _ _ _ _ _ _ (table-refusal (c .before .before .before)) (c .if1 .taken))
+
+shared-slice-read-m : tie.Need-shared-slice-read-m
+shared-slice-read-m c = omega (arith, checked (c .before))
+
+cast-m : tie.Need-cast-m
+cast-m c = omega (arith, checked (c .before))
+
+are-short-requires : tie.Need-are-short-requires
+are-short-requires c κs = omega (arith, checked (c .before))
+
+returns-2 : tie.Need-returns-2
+returns-2 c =
+    promised (translate-short _ (is-taken (c .before .before .before)) _ _ _ _ _ (sym (c .before .are-short .ensures) ∙ c .if2 .taken))
+
+slice-aggregate-write-cells : tie.Need-slice-aggregate-write-cells
+slice-aggregate-write-cells c = search needs
+
+slice-aggregate-write-cells-2 : tie.Need-slice-aggregate-write-cells-2
+slice-aggregate-write-cells-2 c = search needs
+
+slice-aggregate-write-cells-3 : tie.Need-slice-aggregate-write-cells-3
+slice-aggregate-write-cells-3 c = search needs
+
+write-cells-requires : tie.Need-write-cells-requires
+write-cells-requires c κs =
+    let t = taken (c .before .before .before) in
+    (is-taken t, inside-listed t, counted-listed t, omega (arith, checked t))
+
+slice-aggregate-write-entries : tie.Need-slice-aggregate-write-entries
+slice-aggregate-write-entries c = search needs
+
+slice-aggregate-write-entries-2 : tie.Need-slice-aggregate-write-entries-2
+slice-aggregate-write-entries-2 c = search needs
+
+write-entries-requires : tie.Need-write-entries-requires
+write-entries-requires c κs =
+    let t = taken (c .before .before .before .before .before .before .before) in
+    (is-taken t, counted-listed t, omega (arith, checked t))
+
+slice-aggregate-explore : tie.Need-slice-aggregate-explore
+slice-aggregate-explore c = search needs
+
+slice-aggregate-explore-2 : tie.Need-slice-aggregate-explore-2
+slice-aggregate-explore-2 c = search needs
+
+explore-requires : tie.Need-explore-requires
+explore-requires c κs =
+    let w : tie.After-write-entries = c .before .before .before .before .before .before .before in
+    let v : tie.After-write-cells = w .before .before .before .before in
+    let u : tie.Else2 = v .before .before .before .before in
+    let ok = room u in
+    (is-taken (taken u), v .write-cells .ensures, w .write-entries .ensures, omega arith, omega arith, omega arith, omega arith, omega arith, omega arith)
+
+clear-rows-requires : tie.Need-clear-rows-requires
+clear-rows-requires c κs =
+    let v : tie.Then3 = c .before .before .before .before in
+    let x = explored (v .before) in
+    omega (arith, checked (taken (tests x)), room-kept (room (tests x)) (x .explore .ensures))
+
+same-length : tie.Need-same-length
+same-length c = search needs
+
+same-length-2 : tie.Need-same-length-2
+same-length-2 c = search needs
+
+same-length-3 : tie.Need-same-length-3
+same-length-3 c = search needs
+
+same-length-4 : tie.Need-same-length-4
+same-length-4 c = search needs
+
+returns-3 : tie.Need-returns-3
+returns-3 c =
+    let w : tie.After-clear-rows = c .before .before .before .before .before .before .before .before in
+    let v : tie.Then3 = w .before .before .before .before .before in
+    let x = explored (v .before) in
+    let u = tests x in
+    promised (translate-full _ (is-taken (taken u)) _ _ _ _ _ (fits u) _ _ _ _ _ _ _ _ _ (x .explore .ensures) (v .if3 .taken) (w .clear-rows .ensures))
+
+clear-rows-requires-2 : tie.Need-clear-rows-requires-2
+clear-rows-requires-2 c κs =
+    let v : tie.Else3 = c .before .before .before .before in
+    let x = explored (v .before) in
+    omega (arith, checked (taken (tests x)), room-kept (room (tests x)) (x .explore .ensures))
+
+same-length-5 : tie.Need-same-length-5
+same-length-5 c = search needs
+
+same-length-6 : tie.Need-same-length-6
+same-length-6 c = search needs
+
+same-length-7 : tie.Need-same-length-7
+same-length-7 c = search needs
+
+same-length-8 : tie.Need-same-length-8
+same-length-8 c = search needs
+
+returns-4 : tie.Need-returns-4
+returns-4 c =
+    let w : tie.After-clear-rows2 = c .before .before .before .before .before .before .before .before in
+    let v : tie.Else3 = w .before .before .before .before .before in
+    let x = explored (v .before) in
+    let u = tests x in
+    promised (translate-done _ (is-taken (taken u)) _ _ _ _ _ (fits u) _ _ _ _ _ _ _ _ _ (x .explore .ensures) (v .if3 .left) (w .clear-rows2 .ensures))
+
+pub translate-table-spec : {M : Type 1} → statement M
+translate-table-spec =
+    tie.close
+    (tie.spec
+    slice-aggregate-survey-table
+    slice-aggregate-survey-table-2
+    survey-table-requires
+    returns
+    shared-slice-read-m
+    cast-m
+    are-short-requires
+    returns-2
+    slice-aggregate-write-cells
+    slice-aggregate-write-cells-2
+    slice-aggregate-write-cells-3
+    write-cells-requires
+    slice-aggregate-write-entries
+    slice-aggregate-write-entries-2
+    write-entries-requires
+    slice-aggregate-explore
+    slice-aggregate-explore-2
+    explore-requires
+    clear-rows-requires
+    same-length
+    same-length-2
+    same-length-3
+    same-length-4
+    returns-3
+    clear-rows-requires-2
+    same-length-5
+    same-length-6
+    same-length-7
+    same-length-8
+    returns-4)

@@ -1,0 +1,106 @@
+// Translates a Rabin table into a parity table, by index appearance records.
+// It rests on `tables`, which checks a table and says what counts where, and on `records`. `translate_table` keeps the promise
+// `TranslateSays` of the rules, and with it demand 3 of the arrays as they are left, `TranslationAgrees`.
+use rules::limit::MAX_CELLS;
+use rules::limit::MAX_ROWS;
+use rules::limit::MAX_STATES;
+use rules::refusal;
+use tables::survey_table;
+
+mod cells;
+mod clear;
+mod explore;
+mod filing;
+mod index;
+mod keys;
+
+ghost use mathlib.Core.Path.{_≡_};
+ghost use Prim.Native.Nat.{_≤_};
+ghost use Rattle.rules.specs.Limits.{maxLetters};
+ghost use Rattle.rules.specs.Says.{areShort, TranslateSays, TranslationAgrees};
+
+// The refusal or 0, and the number of rows, 0 on a refusal.
+pub struct Translation {
+    pub number: u8,
+    pub rows: usize,
+}
+
+// The capacity is out of range, or an array is below its size.
+fn are_short(
+    capacity: usize,
+    m: usize,
+    targets: usize,
+    priorities: usize,
+    sources: usize,
+    records: usize,
+) -> bool
+    requires { ⌜ m ≤ maxLetters ⌝ }
+    ensures { λ r. ⌜ r ≡ areShort capacity m targets priorities sources records ⌝ }
+{
+    if (capacity == 0) | (MAX_ROWS < capacity) {
+        return true;
+    }
+    let cells = capacity * m;
+    (targets < cells) | ((priorities < cells) | ((sources < capacity) | (records < capacity)))
+}
+
+// The parity table of a Rabin table, in the lent arrays.
+pub fn translate_table(
+    table: &[u8],
+    capacity: usize,
+    targets: &mut [u16],
+    priorities: &mut [u8],
+    sources: &mut [u8],
+    records: &mut [u32],
+) -> Translation
+    ensures says { λ r. ⌜ TranslateSays (now (table .entry)) capacity (now (targets .entry)) (now (targets .exit)) (now (priorities .entry)) (now (priorities .exit)) (now (sources .entry)) (now (sources .exit)) (now (records .entry)) (now (records .exit)) (r .number) (r .rows) ⌝ }
+    ensures agrees { λ r. ⌜ TranslationAgrees (now (table .entry)) (now (targets .exit)) (now (priorities .exit)) (now (sources .exit)) (r .number) (r .rows) ⌝ }
+{
+    let mut inside = [0; MAX_STATES as usize];
+    let mut counted = [0; MAX_STATES as usize];
+    let refused = survey_table(table, &mut inside, &mut counted);
+    if refused != 0 {
+        return Translation {
+            number: refused,
+            rows: 0,
+        };
+    }
+    let m = table[1] as usize;
+    let short = are_short(
+        capacity,
+        m,
+        targets.len(),
+        priorities.len(),
+        sources.len(),
+        records.len(),
+    );
+    if short {
+        return Translation {
+            number: refusal::ARRAYS,
+            rows: 0,
+        };
+    }
+    let mut words = [0; MAX_CELLS];
+    let mut entries = [0; MAX_STATES as usize];
+    cells::write_cells(table, &inside, &counted, &mut words);
+    cells::write_entries(table, &counted, &mut entries);
+    let rows = explore::explore(
+        table,
+        &words,
+        &entries,
+        capacity,
+        sources,
+        records,
+        targets,
+        priorities,
+    );
+    if capacity < rows {
+        clear::clear_rows(m, 0, capacity, targets, priorities, sources, records);
+        return Translation {
+            number: refusal::FULL,
+            rows: 0,
+        };
+    }
+    clear::clear_rows(m, rows, capacity, targets, priorities, sources, records);
+    Translation { number: 0, rows }
+}
