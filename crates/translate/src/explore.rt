@@ -4,6 +4,7 @@ use crate::cells::is_missing;
 use crate::cells::next_key;
 use crate::cells::prohibited_in;
 use crate::cells::required_in;
+use crate::filing::rows_after;
 use crate::filing::settle;
 use crate::index::SLOTS;
 use crate::keys::SPAN;
@@ -55,7 +56,7 @@ fn read_letter(
     let next = next_key(word, order, entries);
     let number = settle(next, n, capacity, keys, heads, links, sources, records);
     targets[p] = number as u16;
-    if number == n { n + 1 } else { n }
+    rows_after(n, number)
 }
 
 // Reads row i by all letters, as long as there is room, and gives how many rows are known then.

@@ -4,12 +4,13 @@ use crate::index::find_key;
 use crate::index::slot;
 use crate::keys::SPAN;
 use records::Record;
+ghost use mathlib.Core.Path.{_≡_};
 ghost use Prim.Native.Nat.{_*_, _<_, _≤_};
 ghost use lib.ListN.{length};
 ghost use Rattle.rules.specs.Limits.{maxRows};
 ghost use Rattle.translate.specs.Index.{slots};
 ghost use Rattle.translate.specs.Keys.{span};
-ghost use Rattle.translate.specs.Filing.{Filed, RowAdded, Settles};
+ghost use Rattle.translate.specs.Filing.{Filed, RowAdded, rowsAfter, Settles};
 
 // Files the row of a key as number n.
 fn add_row(
@@ -56,4 +57,12 @@ pub(crate) fn settle(
         return n;
     };
     number
+}
+
+// How many rows are filed when the row of this number has been settled among n.
+pub(crate) fn rows_after(n: usize, number: usize) -> usize
+    requires { ⌜ n ≤ maxRows ⌝ }
+    ensures { λ r. ⌜ r ≡ rowsAfter n number ⌝ }
+{
+    if number == n { n + 1 } else { n }
 }

@@ -4,12 +4,10 @@ use mathlib.Core.Bool.{true, false}
 use mathlib.Core.List.{List}
 use Prim.Native.Nat.{ℕ, suc, _+_, _*_, _/_, _%_, _<_, _≤_}
 use native.Mathlib.Nat.{mul-le-mul}
-use native.Mathlib.Numerals.{add-one}
 use native.Mathlib.Omega.{arith}
 use borrow.Author.Needs.{needs}
-use borrow.Author.Tests.{eq-eqb, ne-eqb}
 use lib.Dec.{ltb}
-use lib.ListN.{length, getD}
+use lib.ListN.{getD, length-set}
 use Rattle.rules.specs.Limits.{maxRows, maxLetters}
 use Rattle.rules.specs.Systems.{cell}
 use Rattle.rules.specs.Tables.{tableOf}
@@ -154,10 +152,10 @@ slice-write-priorities c =
     let s = c .before .before .before .before .before .before .before .before .before .before .before .before .before .before in omega (arith, in-rows s, s .pre .6 .priority-room)
 
 same-length : tie.Need-same-length
-same-length c = search needs
+same-length c = simp length-set
 
 same-length-2 : tie.Need-same-length-2
-same-length-2 c = search needs
+same-length-2 c = simp length-set
 
 returns : tie.Need-returns
 returns c =
@@ -198,65 +196,37 @@ slice-write-targets-2 : tie.Need-slice-write-targets-2
 slice-write-targets-2 c =
     let s = c .before .before .before .before .before .before .before .before .before .before .before .before .before .before .before .before .before .before .before .before .before .before .before .before .before .before .before .before .before .before .before .before .before .before in omega (arith, in-rows s, s .pre .6 .target-room)
 
-add-result : tie.Need-add-result
-add-result c =
-    let s = c .before .before .before .before .before .before .before .before .before .before .before .before .before .before .before .before .before .before .before .before .before .before .before .before .before .before .before .before .before .before .before .before .before .before .before in omega (arith, s .pre .6 .filed .few, s .pre .6 .filed .most)
+rows-after-requires : tie.Need-rows-after-requires
+rows-after-requires c κs =
+    let s = c .before .before .before .before .before .before .before .before .before .before .before .before .before .before .before .before .before .before .before .before .before .before .before .before .before .before .before .before .before .before .before .before .before .before in omega (arith, s .pre .6 .filed .few, s .pre .6 .filed .most)
 
 same-length-3 : tie.Need-same-length-3
-same-length-3 c = search needs
+same-length-3 c = e (c .before) .settle .kept .1 .1 .1 .0
 
 same-length-4 : tie.Need-same-length-4
-same-length-4 c = search needs
+same-length-4 c = e (c .before) .settle .kept .1 .1 .1 .1 .0
 
 same-length-5 : tie.Need-same-length-5
-same-length-5 c = search needs
+same-length-5 c = e (c .before) .settle .kept .1 .1 .1 .1 .1 .0
 
 same-length-6 : tie.Need-same-length-6
-same-length-6 c = search needs
+same-length-6 c = e (c .before) .settle .kept .1 .1 .1 .1 .1 .1 .0
 
 same-length-7 : tie.Need-same-length-7
-same-length-7 c = search needs
+same-length-7 c = e (c .before) .settle .kept .1 .1 .1 .1 .1 .1 .1 .0
 
 same-length-8 : tie.Need-same-length-8
-same-length-8 c = search needs
+same-length-8 c = simp length-set
 
 same-length-9 : tie.Need-same-length-9
-same-length-9 c = search needs
+same-length-9 c = simp length-set
 
 returns-2 : tie.Need-returns-2
 returns-2 c =
     let k = c .before in
     let n = nk k in
     let t = s (o n) in
-    letter-there (bytes t) (t .pre .0) _ _ _ _ _ _ _ _ _ _ _ (t .pre .3) (t .pre .4) (t .pre .6) _ _ _ _ _ _ _ _ (e k .settle .ensures) (there (o n) .0) (there (o n) .2) (next-is n) (priority-is n) _ (rw (eq-eqb _ _ (c .if2 .taken)) (add-one _))
-
-same-length-10 : tie.Need-same-length-10
-same-length-10 c = search needs
-
-same-length-11 : tie.Need-same-length-11
-same-length-11 c = search needs
-
-same-length-12 : tie.Need-same-length-12
-same-length-12 c = search needs
-
-same-length-13 : tie.Need-same-length-13
-same-length-13 c = search needs
-
-same-length-14 : tie.Need-same-length-14
-same-length-14 c = search needs
-
-same-length-15 : tie.Need-same-length-15
-same-length-15 c = search needs
-
-same-length-16 : tie.Need-same-length-16
-same-length-16 c = search needs
-
-returns-3 : tie.Need-returns-3
-returns-3 c =
-    let k = c .before in
-    let n = nk k in
-    let t = s (o n) in
-    letter-there (bytes t) (t .pre .0) _ _ _ _ _ _ _ _ _ _ _ (t .pre .3) (t .pre .4) (t .pre .6) _ _ _ _ _ _ _ _ (e k .settle .ensures) (there (o n) .0) (there (o n) .2) (next-is n) (priority-is n) _ (rw (ne-eqb _ _ (c .if2 .left)))
+    letter-there (bytes t) (t .pre .0) _ _ _ _ _ _ _ _ _ _ _ (t .pre .3) (t .pre .4) (t .pre .6) _ _ _ _ _ _ _ _ (e k .settle .ensures) (there (o n) .0) (there (o n) .2) (next-is n) (priority-is n) _ (c .rows-after .ensures)
 
 pub read-letter-spec : {M : Type 1} → statement M
 read-letter-spec =
@@ -287,7 +257,7 @@ read-letter-spec =
     cast-targets
     mul-targets-2
     slice-write-targets-2
-    add-result
+    rows-after-requires
     same-length-3
     same-length-4
     same-length-5
@@ -295,12 +265,4 @@ read-letter-spec =
     same-length-7
     same-length-8
     same-length-9
-    returns-2
-    same-length-10
-    same-length-11
-    same-length-12
-    same-length-13
-    same-length-14
-    same-length-15
-    same-length-16
-    returns-3)
+    returns-2)
