@@ -68,7 +68,8 @@ impl Record {
         let mut last = Position(0);
         let mut p = 1;
         while p <= Record::LIMIT {
-            let hit = self.pair_at(Position(p)).is_in(pairs);
+            let pair = self.pair_at(Position(p));
+            let hit = pair.is_in(pairs);
             last = later(last, Position(p), hit);
             p += 1;
         }

@@ -2,13 +2,11 @@
 // lent arrays is written once, as it is read.
 use crate::cells::is_missing;
 use crate::cells::next_key;
-use crate::cells::prohibited_in;
-use crate::cells::required_in;
+use crate::cells::priority_of;
 use crate::filing::rows_after;
 use crate::filing::settle;
 use crate::index::SLOTS;
 use crate::keys::SPAN;
-use records::Record;
 use rules::limit::MAX_ROWS;
 use rules::limit::NO_ROW;
 ghost use mathlib.Core.Path.{_≡_};
@@ -51,11 +49,10 @@ fn read_letter(
         priorities[p] = 0;
         return n;
     }
-    let order = Record { word: key % SPAN };
-    priorities[p] = order.priority(prohibited_in(word), required_in(word));
-    let next = next_key(word, order, entries);
+    let next = next_key(word, key, entries);
     let number = settle(next, n, capacity, keys, heads, links, sources, records);
     targets[p] = number as u16;
+    priorities[p] = priority_of(word, key);
     rows_after(n, number)
 }
 

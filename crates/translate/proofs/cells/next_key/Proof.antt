@@ -5,7 +5,7 @@ use borrow.Author.Needs.{needs}
 use borrow.Author.Tests.{lt-ltb, le-ltb}
 use Rattle.records.specs.Words.{isMarked, places}
 use Rattle.records.proofs.Packing.{moved-small, places-below, places-length}
-use Rattle.translate.specs.Keys.{keyOf}
+use Rattle.translate.specs.Keys.{keyOf, wordIn}
 use Rattle.translate.specs.Cells.{insideKind, targetIn, prohibitedIn}
 use Rattle.translate.proofs.CellWords.{unmoved-word}
 use Rattle.translate.proofs.cells.next_key.Statement.{statement}
@@ -35,14 +35,14 @@ returns-2 c =
     let w = s .args .word in
     let none = sym (c .before .before .prohibited-in .ensures) ∙ c .before .if2 .taken in
     c .key-of .ensures
-    ∙ rw (le-ltb w insideKind (c .before .before .before .if1 .left)) (ap (keyOf (targetIn w)) (sym (unmoved-word (prohibitedIn w) (s .args .order .word) none (s .pre .1))))
+    ∙ rw (le-ltb w insideKind (c .before .before .before .if1 .left)) (ap (keyOf (targetIn w)) (sym (unmoved-word (prohibitedIn w) (wordIn (s .args .key)) none (omega arith))))
 
 moved-requires : tie.Need-moved-requires
 moved-requires c κs = search needs
 
 key-of-requires-2 : tie.Need-key-of-requires-2
 key-of-requires-2 c κs =
-    let o = c .before .before .before .before .before .args .order .word in
+    let o = wordIn (c .before .before .before .before .before .args .key) in
     let p = c .before .before .prohibited-in .result in
     (omega arith, rw (c .moved .ensures) (moved-small (isMarked p) (places o) 6 (places-below 6 o) (omega (arith, places-length 6 o))))
 

@@ -74,15 +74,10 @@ module _ (c : tie.Else1) where
 -- its target's key is worked out
 module _ (c : tie.After-next-key) where
   abbrev o : tie.Else1
-  o = c .before .before .before .before
+  o = c .before
 
   next-is : c .next-key .result ≡ rowKey (x o .to)
   next-is = c .next-key .ensures ∙ key-next (bytes (s o)) (s o .pre .0) (s o .args .a) (s o .pre .4) _ _ _ (s o .pre .5) (code (s o)) (word-is (s o)) (present o) (s o .args .entries .now) (s o .pre .2)
-
-  priority-is : c .before .priority .result ≡ x o .prio
-  priority-is =
-      (rw (c .before .before .before .prohibited-in .ensures, c .before .before .required-in .ensures) at (c .before .priority .ensures))
-      ∙ key-priority (bytes (s o)) (s o .pre .0) (s o .args .a) (s o .pre .4) _ _ _ (s o .pre .5) (code (s o)) (word-is (s o)) (present o)
 
   next-below : c .next-key .result < 256 * span
   next-below =
@@ -100,6 +95,13 @@ module _ (c : tie.After-slice-known12) where
 
   number-few : e .settle .result ≤ s (o nk) .args .n
   number-few = omega (arith, e .settle .ensures .number, number-most (s (o nk) .args .n) (nk .next-key .result) (s (o nk) .args .keys .now) (omega (arith, s (o nk) .pre .6 .filed .few, s (o nk) .pre .6 .filed .key-room)))
+
+-- the priority is worked out
+priority-is : (c : tie.After-priority-of) → c .priority-of .result ≡ x (o (nk (c .before))) .prio
+priority-is c =
+    let l = o (nk (c .before)) in
+    let t = s l in
+    c .priority-of .ensures ∙ key-priority (bytes t) (t .pre .0) (t .args .a) (t .pre .4) _ _ _ (t .pre .5) (code t) (word-is t) (present l)
 
 shared-slice-read-m : tie.Need-shared-slice-read-m
 shared-slice-read-m c =
@@ -163,57 +165,50 @@ returns c =
     let gone = key-missing (bytes s) (s .pre .0) (s .args .a) (s .pre .4) _ _ _ (s .pre .5) (code s) (word-is s) (sym (c .before .is-missing .ensures) ∙ c .if1 .taken) in
     letter-missing (bytes s) (s .pre .0) _ _ _ _ _ _ _ _ _ _ _ (s .pre .3) (s .pre .4) (s .pre .6) (gone .0) (gone .1)
 
-prohibited-in-requires : tie.Need-prohibited-in-requires
-prohibited-in-requires c κs = search needs
-
-required-in-requires : tie.Need-required-in-requires
-required-in-requires c κs = search needs
-
-priority-requires : tie.Need-priority-requires
-priority-requires c κs = search needs
-
-slice-write-priorities-2 : tie.Need-slice-write-priorities-2
-slice-write-priorities-2 c =
-    let s = c .before .before .before .before .before .before .before .before .before .before .before .before .before .before .before .before .before in omega (arith, in-rows s, s .pre .6 .priority-room)
-
 next-key-requires : tie.Need-next-key-requires
-next-key-requires c κs =
-    let o : tie.Else1 = c .before .before .before in (omega (arith, there o .1, s o .pre .2 .enough), omega arith)
+next-key-requires c κs = omega (arith, there c .1, s c .pre .2 .enough)
 
 settle-requires : tie.Need-settle-requires
 settle-requires c κs =
-    (c .before .before .before .before .before .before .before .before .before .before .before .before .before .before .before .before .before .before .before .before .before .before .before .pre .6 .filed, next-below (c .before .before .before .before .before))
+    (c .before .before .before .before .before .before .before .before .before .before .before .before .before .before .before .before .before .before .before .before .pre .6 .filed, next-below (c .before .before .before .before .before))
 
 cast-targets : tie.Need-cast-targets
 cast-targets c =
-    let s = c .before .before .before .before .before .before .before .before .before .before .before .before .before .before .before .before .before .before .before .before .before .before .before .before .before .before .before .before .before .before .before .before .before .before in omega (arith, number-few c, s .pre .6 .filed .few, s .pre .6 .filed .most)
+    let s = c .before .before .before .before .before .before .before .before .before .before .before .before .before .before .before .before .before .before .before .before .before .before .before .before .before .before .before .before .before .before .before in omega (arith, number-few c, s .pre .6 .filed .few, s .pre .6 .filed .most)
 
 mul-targets-2 : tie.Need-mul-targets-2
 mul-targets-2 c =
-    let s = c .before .before .before .before .before .before .before .before .before .before .before .before .before .before .before .before .before .before .before .before .before .before .before .before .before .before .before .before .before .before .before .before .before .before in omega (arith, in-rows s, few-rows s)
+    let s = c .before .before .before .before .before .before .before .before .before .before .before .before .before .before .before .before .before .before .before .before .before .before .before .before .before .before .before .before .before .before .before in omega (arith, in-rows s, few-rows s)
 
 slice-write-targets-2 : tie.Need-slice-write-targets-2
 slice-write-targets-2 c =
-    let s = c .before .before .before .before .before .before .before .before .before .before .before .before .before .before .before .before .before .before .before .before .before .before .before .before .before .before .before .before .before .before .before .before .before .before in omega (arith, in-rows s, s .pre .6 .target-room)
+    let s = c .before .before .before .before .before .before .before .before .before .before .before .before .before .before .before .before .before .before .before .before .before .before .before .before .before .before .before .before .before .before .before in omega (arith, in-rows s, s .pre .6 .target-room)
+
+priority-of-requires : tie.Need-priority-of-requires
+priority-of-requires c κs = search needs
+
+slice-write-priorities-2 : tie.Need-slice-write-priorities-2
+slice-write-priorities-2 c =
+    let s = c .before .before .before .before .before .before .before .before .before .before .before .before .before .before .before .before .before .before .before .before .before .before .before .before .before .before .before .before .before .before .before .before in omega (arith, in-rows s, s .pre .6 .priority-room)
 
 rows-after-requires : tie.Need-rows-after-requires
 rows-after-requires c κs =
-    let s = c .before .before .before .before .before .before .before .before .before .before .before .before .before .before .before .before .before .before .before .before .before .before .before .before .before .before .before .before .before .before .before .before .before .before in omega (arith, s .pre .6 .filed .few, s .pre .6 .filed .most)
+    let s = c .before .before .before .before .before .before .before .before .before .before .before .before .before .before .before .before .before .before .before .before .before .before .before .before .before .before .before .before .before .before .before .before in omega (arith, s .pre .6 .filed .few, s .pre .6 .filed .most)
 
 same-length-3 : tie.Need-same-length-3
-same-length-3 c = e (c .before) .settle .kept .1 .1 .1 .0
+same-length-3 c = e (c .before .before) .settle .kept .1 .1 .1 .0
 
 same-length-4 : tie.Need-same-length-4
-same-length-4 c = e (c .before) .settle .kept .1 .1 .1 .1 .0
+same-length-4 c = e (c .before .before) .settle .kept .1 .1 .1 .1 .0
 
 same-length-5 : tie.Need-same-length-5
-same-length-5 c = e (c .before) .settle .kept .1 .1 .1 .1 .1 .0
+same-length-5 c = e (c .before .before) .settle .kept .1 .1 .1 .1 .1 .0
 
 same-length-6 : tie.Need-same-length-6
-same-length-6 c = e (c .before) .settle .kept .1 .1 .1 .1 .1 .1 .0
+same-length-6 c = e (c .before .before) .settle .kept .1 .1 .1 .1 .1 .1 .0
 
 same-length-7 : tie.Need-same-length-7
-same-length-7 c = e (c .before) .settle .kept .1 .1 .1 .1 .1 .1 .1 .0
+same-length-7 c = e (c .before .before) .settle .kept .1 .1 .1 .1 .1 .1 .1 .0
 
 same-length-8 : tie.Need-same-length-8
 same-length-8 c = simp length-set
@@ -223,10 +218,10 @@ same-length-9 c = simp length-set
 
 returns-2 : tie.Need-returns-2
 returns-2 c =
-    let k = c .before in
+    let k = c .before .before in
     let n = nk k in
     let t = s (o n) in
-    letter-there (bytes t) (t .pre .0) _ _ _ _ _ _ _ _ _ _ _ (t .pre .3) (t .pre .4) (t .pre .6) _ _ _ _ _ _ _ _ (e k .settle .ensures) (there (o n) .0) (there (o n) .2) (next-is n) (priority-is n) _ (c .rows-after .ensures)
+    letter-there (bytes t) (t .pre .0) _ _ _ _ _ _ _ _ _ _ _ (t .pre .3) (t .pre .4) (t .pre .6) _ _ _ _ _ _ _ _ (e k .settle .ensures) (there (o n) .0) (there (o n) .2) (next-is n) (priority-is (c .before)) _ (c .rows-after .ensures)
 
 pub read-letter-spec : {M : Type 1} → statement M
 read-letter-spec =
@@ -248,15 +243,13 @@ read-letter-spec =
     same-length
     same-length-2
     returns
-    prohibited-in-requires
-    required-in-requires
-    priority-requires
-    slice-write-priorities-2
     next-key-requires
     settle-requires
     cast-targets
     mul-targets-2
     slice-write-targets-2
+    priority-of-requires
+    slice-write-priorities-2
     rows-after-requires
     same-length-3
     same-length-4
