@@ -12,7 +12,6 @@
 --     packed-places            the word of all its places is the word
 --     places-packed, pairs-packed, packed-small     the word of an ordering holds it, and nothing else
 --     moved-packed, priority-packed     a move and a priority are the same for the places of that word
---     marked-none              0 is in no set
 --     marked-shifted           a pair is in a set, as a shift finds it
 --     moved-unmarked, priority-unmarked     the move and the priority where nothing is marked
 --     last-within              the last position of a marked pair lies within the record
@@ -223,9 +222,6 @@ module _ (o : List ℕ) (few : length o ≤ limit) (pairs : AllPairs o) where
   priority-packed m f g = ap (priority m) places-packed ∙ priority-padded m o (limit - length o) 1 1 f g
 
 -- ---- sets of pairs
-pub marked-none : (set : ℕ) → isMarked set 0 ≡ false
-marked-none set = refl
-
 unmarked : (i : ℕ) → isMarked 0 i ≡ false
 unmarked i = by (isPair i) (λ e. rw (e, bit-none (i - 1))) (λ e. rw e)
 

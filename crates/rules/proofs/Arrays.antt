@@ -2,6 +2,7 @@
 --     tabulate-length, tabulate-at, tabulate-last, tabulate-same     a tabulated list
 --     cell-before, cell-same, cell-split     a place is the cell of one row and one letter only
 --     joined-length, joined-at         lists of one length, joined: the cell of row i and letter a is number i · m + a
+--     cells-length, cells-at           one number for each letter of each row, joined
 --     tabulate-none, joined-none       where nothing passes a test, in each place or in each list
 --     mapped-at                        one number for each row
 use mathlib.Core.Path.{_≡_, refl, sym, ap, _∙_}
@@ -72,6 +73,20 @@ module _ {A B : Type 0} (h : A → List B) (m : ℕ) (even : (x : A) → length 
   joined-at (x ∷ xs) z (suc i) a d d′ l la =
       let e : cell m (suc i) a ≡ length (h x) + cell m i a = rw suc-mul (omega (arith, even x)) in
       rw (append-assoc (h x) (joined h xs) z, e) (getD-append-add (h x) (joined h xs ++ z) (cell m i a) d ∙ joined-at xs z i a d d′ (omega arith) la)
+
+-- one number for each letter of each row
+module _ {A : Type 0} (h : A → ℕ → ℕ) (m : ℕ) where
+  even-rows : (r : A) → length (tabulate m 0 (h r)) ≡ m
+  even-rows r = tabulate-length (h r) m 0
+
+  pub cells-length : (rs : List A) → length (joined (λ r. tabulate m 0 (h r)) rs) ≡ length rs * m
+  cells-length rs = joined-length (λ r. tabulate m 0 (h r)) m even-rows rs
+
+  pub cells-at : (rs : List A) (z : List ℕ) (i a d : ℕ) (d′ : A) → i < length rs → a < m
+      → getD (joined (λ r. tabulate m 0 (h r)) rs ++ z) (cell m i a) d ≡ h (getD rs i d′) a
+  cells-at rs z i a d d′ l la =
+      joined-at (λ r. tabulate m 0 (h r)) m even-rows rs z i a d d′ l la ∙ tabulate-at (h (getD rs i d′)) m 0 a d la
+      ∙ ap (h (getD rs i d′)) (omega arith)
 
 -- tests that nothing passes
 pub tabulate-none : {B : Type 0} (b : B → Bool) (h : ℕ → B) (n i : ℕ) → ((a : ℕ) → i ≤ a → a < i + n → b (h a) ≡ false)

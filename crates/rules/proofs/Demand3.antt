@@ -12,15 +12,14 @@ use mathlib.Core.Path.{_≡_, refl, sym, ap, ap₂, _∙_}
 use mathlib.Core.Bool.{Bool, true, false, not, _||_}
 use mathlib.Core.List.{List, [], _∷_, _++_}
 use Prim.Native.Nat.{ℕ, _*_, _≤_, _<_, max}
-use native.Mathlib.Nat.{zero-add}
 use native.Mathlib.Omega.{arith}
 use lib.Dec.{eqb, ltb, leb}
 use lib.ListN.{length, getD, take, length-append}
 use lib.Seq.{take-at}
 use borrow.Author.Tests.{ltb-false, lt-ltb, leb-true, leb-false}
-use Rattle.rules.specs.Basics.{tabulate, joined, largest, isEven}
+use Rattle.rules.specs.Basics.{tabulate, largest, isEven}
 use Rattle.rules.specs.Limits.{maxLetters, maxRows, noRow}
-use Rattle.rules.specs.Systems.{System, isInside, Path, here, step, cell}
+use Rattle.rules.specs.Systems.{System, isInside, Path, here, step}
 use Rattle.rules.specs.Runs.{Taken, taken, passFrom, strayLetter, isClosedWalk, projected}
 use Rattle.rules.specs.Rows.{Step, Plan, RowsAre, Row, row, Keeper, stepOf, planOf, numberOf, rowsOf, isFull, rowAt, Reached, first-row, next-row, targetNumber, allTargets, allPriorities, sources}
 use Rattle.rules.specs.Tables.{targetFault}
@@ -33,7 +32,7 @@ use Rattle.rules.proofs.Reach.{path-append, Leads, inside-of-return}
 use Rattle.rules.proofs.Walks.{closed-path}
 use Rattle.rules.proofs.Agreement.{Projects, path-projects, words-agree}
 use Rattle.rules.proofs.Exploration.{rows-view}
-use Rattle.rules.proofs.Arrays.{tabulate-length, tabulate-at, tabulate-none, joined-length, joined-at, joined-none, mapped-at}
+use Rattle.rules.proofs.Arrays.{cells-length, cells-at, tabulate-none, joined-none, mapped-at}
 use Rattle.rules.proofs.Steps.{step-missing, step-inside, step-crossing, step-there, step-source, step-present, plan-same}
 use Rattle.rules.proofs.Refusals.{TakenWord, taken-word, parity-none}
 
@@ -87,16 +86,6 @@ module _
       rows-fit : (i : ℕ) → i < length rs → (at i .source < s .states) × Fits (at i .source) (at i .memory)
       rows-fit i l = reached-fits (found .reached i l)
 
-      -- one list of a cell for each letter, for each row
-      rows-length : (h : Row M → ℕ → ℕ) → length (joined (λ r. tabulate (s .letters) 0 (h r)) rs) ≡ length rs * s .letters
-      rows-length h = joined-length (λ r. tabulate (s .letters) 0 (h r)) (s .letters) (λ r. tabulate-length (h r) (s .letters) 0) rs
-
-      cell-at : (h : Row M → ℕ → ℕ) (z : List ℕ) (i a d : ℕ) → i < length rs → a < s .letters
-          → getD (joined (λ r. tabulate (s .letters) 0 (h r)) rs ++ z) (cell (s .letters) i a) d ≡ h (at i) a
-      cell-at h z i a d l la =
-          joined-at (λ r. tabulate (s .letters) 0 (h r)) (s .letters) (λ r. tabulate-length (h r) (s .letters) 0) rs z i a d (g .first) l la
-          ∙ tabulate-at (h (at i)) (s .letters) 0 a d la ∙ ap (h (at i)) (zero-add a)
-
       -- ---- the arrays, with whatever stands behind the rows
       module _ (za zb zd : List ℕ) where
         abbrev ts : List ℕ
@@ -115,10 +104,10 @@ module _
         source i = at i .source
 
         target-at : (i a : ℕ) → i < length rs → a < s .letters → P .go i a ≡ targetNumber g noRow rs (at i) a
-        target-at i a l la = cell-at (targetNumber g noRow rs) za i a noRow l la
+        target-at i a l la = cells-at (targetNumber g noRow rs) (s .letters) rs za i a noRow (g .first) l la
 
         priority-at : (i a : ℕ) → i < length rs → a < s .letters → priorityAt (s .letters) ps (taken i a) ≡ stepOf s k (at i) a .prio
-        priority-at i a l la = cell-at (λ r b. stepOf s k r b .prio) zb i a 0 l la
+        priority-at i a l la = cells-at (λ r b. stepOf s k r b .prio) (s .letters) rs zb i a 0 (g .first) l la
 
         source-at : (i : ℕ) → i < length rs → getD ss i 0 ≡ source i
         source-at i l = mapped-at (λ r. r .source) rs zd i 0 (g .first) l
@@ -211,7 +200,7 @@ module _
         -- ---- judges
         targets-taken : targetFault (length rs) noRow (take (length rs * s .letters) ts) ≡ false
         targets-taken =
-            rw (take-at (allTargets g noRow rs) za (length rs * s .letters) (rows-length (targetNumber g noRow rs)))
+            rw (take-at (allTargets g noRow rs) za (length rs * s .letters) (cells-length (targetNumber g noRow rs) (s .letters) rs))
             (joined-none stray (λ r. tabulate (s .letters) 0 (targetNumber g noRow rs r)) (g .first) rs (λ i l. tabulate-none stray (targetNumber g noRow rs (at i)) (s .letters) 0 (λ a low la. taken-at i a l (omega arith))))
           where
             stray : ℕ → Bool
@@ -227,8 +216,8 @@ module _
         parity-taken : 1 ≤ s .letters → s .letters ≤ maxLetters → parityFault (length rs) (s .letters) ts ps ≡ 0
         parity-taken some-letters most-letters =
             parity-none (length rs) (s .letters) ts ps (found .some) (omega (arith, ltb-false c (length rs) not-full)) some-letters most-letters
-            (simp length-append (omega (arith, rows-length (targetNumber g noRow rs))))
-            (simp length-append (omega (arith, rows-length (λ r a. stepOf s k r a .prio))))
+            (simp length-append (omega (arith, cells-length (targetNumber g noRow rs) (s .letters) rs)))
+            (simp length-append (omega (arith, cells-length (λ r a. stepOf s k r a .prio) (s .letters) rs)))
             targets-taken
 
         judges-agree : 1 ≤ s .letters → s .letters ≤ maxLetters → (lead l : List ℕ)

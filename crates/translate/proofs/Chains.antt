@@ -6,13 +6,12 @@
 --     sought-first, sought-next      the search begins at a slot's head, and goes on along the links
 use mathlib.Core.Path.{_≡_, refl, sym, ap, _∙_}
 use mathlib.Core.List.{List}
-use Prim.Native.Nat.{ℕ, zero, suc, _+_, _*_, _/_, _%_, _<_, _≤_}
+use Prim.Native.Nat.{ℕ, zero, suc, _<_, _≤_}
 use native.Mathlib.Omega.{arith}
 use lib.Dec.{eqb}
 use lib.ListN.{length, getD, set}
 use lib.Seq.{getD-set-same, getD-set-other}
-use borrow.Author.Tests.{eqb-true, eqb-false, eq-eqb, ne-eqb}
-use Rattle.rules.specs.Basics.{pick}
+use borrow.Author.Tests.{eqb-true, eqb-false}
 use Rattle.rules.proofs.Bools.{by}
 use Rattle.translate.specs.Index.{slots, slotOf, nearest, Indexed}
 

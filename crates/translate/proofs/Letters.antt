@@ -26,7 +26,7 @@ use Rattle.tables.specs.Parts.{Taken}
 use Rattle.tables.proofs.Cells.{cell-within}
 use Rattle.translate.specs.Keys.{keyOf, rowKey, sourceIn, wordIn, keyRow, IsRow, IsKey, rowsIn}
 use Rattle.translate.specs.Cells.{crossingKind, insideKind, targetIn, prohibitedIn, requiredIn, cellWord, Entries}
-use Rattle.translate.specs.Filing.{Filed, rowsAfter, Settles}
+use Rattle.translate.specs.Filing.{rowsAfter, Settles}
 use Rattle.translate.specs.Exploring.{Read, planIn, lettersOf, Known, LetterSays}
 use Rattle.translate.proofs.Rests.{beyond-none, beyond-set}
 use Rattle.translate.proofs.RowKeys.{row-word, row-of-key, row-is-key}

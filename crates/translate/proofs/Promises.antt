@@ -29,7 +29,7 @@ use Rattle.rules.specs.Tables.{tableOf, tableFault, sizesFault, tableLength, ta
 use Rattle.rules.specs.Claims.{tableRows, targets, priorities, sourceStates, recordNumbers}
 use Rattle.rules.specs.Says.{areShort, translateFault, over, padded, afterwards, TranslateSays, TranslationAgrees}
 use Rattle.rules.proofs.Bools.{by, or-none}
-use Rattle.rules.proofs.Arrays.{tabulate-length, tabulate-at, cell-split, joined-length, joined-at, mapped-at}
+use Rattle.rules.proofs.Arrays.{tabulate-length, tabulate-at, cell-split, cells-length, cells-at, mapped-at}
 use Rattle.rules.proofs.Filling.{filled-over, zeros-at}
 use Rattle.rules.proofs.Refusals.{taken-table}
 use Rattle.rules.proofs.Demands.{says-agrees}
@@ -167,26 +167,16 @@ module _ {A : Type 0} {n c : ℕ} (rs : List A) (first : A) (count : n ≡ lengt
   cells-padded : {m : ℕ} {old mid new : List ℕ} (h : A → ℕ → ℕ) → 0 < m → c * m ≤ length old → Beyond (c * m) old mid → Cleared (n * m) (c * m) mid new
       → ((i a : ℕ) → a < m → cell m i a < n * m → getD mid (cell m i a) 0 ≡ h (getD rs i first) a) → new ≡ padded (c * m) (joined (λ r. tabulate m 0 (h r)) rs) old
   cells-padded {m} {old} {mid} h some room rest clear front =
-      padded-is cells (joined-length row m even rs ∙ rw (← count)) (mul-le-mul-right m few) room rest clear same
+      padded-is cells (cells-length h m rs ∙ rw (← count)) (mul-le-mul-right m few) room rest clear same
     where
-      row : A → List ℕ
-      row r = tabulate m 0 (h r)
-
-      even : (r : A) → length (row r) ≡ m
-      even r = tabulate-length (h r) m 0
-
       cells : List ℕ
-      cells = joined row rs
-
-      cell-is : (i a : ℕ) → i < length rs → a < m → h (getD rs i first) a ≡ getD (cells ++ []) (cell m i a) 0
-      cell-is i a l la =
-          let r = getD rs i first in
-          sym (joined-at row m even rs [] i a 0 first l la ∙ tabulate-at (h r) m 0 a 0 la ∙ ap (h r) (omega arith))
+      cells = joined (λ r. tabulate m 0 (h r)) rs
 
       same : (p : ℕ) → p < n * m → getD mid p 0 ≡ getD cells p 0
       same p l =
           let s = cell-split m n p some l in
-          rw (← append-nil cells, s .4) (front (s .0) (s .1) (s .2) (rw (s .4) at l) ∙ cell-is (s .0) (s .1) (rw (← count) (s .3)) (s .2))
+          rw (← append-nil cells, s .4)
+          (front (s .0) (s .1) (s .2) (rw (s .4) at l) ∙ sym (cells-at h m rs [] (s .0) (s .1) 0 first (rw (← count) (s .3)) (s .2)))
 
 -- ---- the returns
 pub translate-refused : (bs : List ℕ) (c : ℕ) (a b d e : List ℕ) (r : ℕ) → r ≡ tableFault bs → (r ≡ 0 → ⊥) → TranslateSays bs c a a b b d d e e r 0

@@ -14,16 +14,15 @@ use native.Mathlib.Omega.{arith}
 use lib.Dec.{eqb, ltb, leb}
 use lib.ListN.{length, getD, set, take, length-append}
 use lib.Seq.{getD-set-same, getD-set-other, getD-take, length-take-le}
-use borrow.Author.Tests.{eqb-true, eqb-false, eq-eqb, ne-eqb, ltb-true, ltb-false, leb-true, leb-false, le-leb, lt-leb}
-use Rattle.rules.specs.Basics.{pick, tabulate}
+use borrow.Author.Tests.{eqb-true, eqb-false, ltb-true, ltb-false, leb-true, leb-false, le-leb, lt-leb}
+use Rattle.rules.specs.Basics.{pick}
 use Rattle.rules.specs.Systems.{cell}
 use Rattle.rules.specs.Rows.{Plan, SameIsEqual, rowAt, numberOf, met, targetNumber}
-use Rattle.rules.proofs.Bools.{by, clash}
+use Rattle.rules.proofs.Bools.{by}
 use Rattle.rules.proofs.Arrays.{tabulate-length, tabulate-at, tabulate-last, tabulate-same, cell-before, cell-same}
 use Rattle.rules.proofs.Exploration.{place-most, place-same, place-append, place-added, met-longer, met-row}
 use Rattle.translate.specs.Index.{numberAmong}
 use Rattle.translate.specs.Keys.{decoded}
-use Rattle.translate.specs.Filing.{rowsAfter}
 use Rattle.translate.specs.Exploring.{Read}
 
 -- ---- rows and their keys

@@ -2,7 +2,7 @@
 --     beyond-none      nothing is written
 --     beyond-set       one place before k is written
 --     beyond-then      one writing after another
-use mathlib.Core.Path.{_≡_, refl, _∙_}
+use mathlib.Core.Path.{refl, _∙_}
 use mathlib.Core.List.{List}
 use Prim.Native.Nat.{ℕ, _<_}
 use native.Mathlib.Omega.{arith}

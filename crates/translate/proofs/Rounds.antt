@@ -4,9 +4,9 @@
 --     RowsPart              the rows below i are read
 --     rows-begun, rows-next, rows-done     no row; one row more; all rows, or more than there is room for
 use mathlib.Core.Path.{_≡_, refl, sym, ap, _∙_}
-use mathlib.Core.Bool.{Bool, true, false, _&&_, and-false}
+use mathlib.Core.Bool.{true, false, _&&_, and-false}
 use mathlib.Core.List.{List, [], _∷_}
-use Prim.Native.Nat.{ℕ, zero, suc, _+_, _-_, _*_, _<_, _≤_}
+use Prim.Native.Nat.{ℕ, suc, _+_, _-_, _*_, _<_, _≤_}
 use native.Mathlib.Nat.{suc-mul, zero-mul}
 use native.Mathlib.Numerals.{add-one}
 use native.Mathlib.Omega.{arith}
@@ -16,8 +16,7 @@ use lib.Seq.{getD-set-same}
 use borrow.Author.Tests.{ltb-true, ltb-false, lt-ltb, leb-false, le-leb, lt-leb}
 use Rattle.rules.specs.Limits.{noRow}
 use Rattle.rules.specs.Systems.{cell}
-use Rattle.rules.specs.Records.{decimal}
-use Rattle.rules.specs.Rows.{Row, Plan, rowAt, met, foundBy, foundFrom, rowsOf, isFull}
+use Rattle.rules.specs.Rows.{Row, Plan, rowAt, met, foundBy, foundFrom, rowsOf}
 use Rattle.rules.specs.Tables.{tableOf}
 use Rattle.rules.proofs.Bools.{by, and-both}
 use Rattle.rules.proofs.RabinTables.{table-same}

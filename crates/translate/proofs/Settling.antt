@@ -3,7 +3,6 @@
 --     filed-none                      no row is filed yet
 --     settled-found, settled-full, settled-added     the three outcomes
 use mathlib.Core.Path.{_≡_, refl, sym, _∙_}
-use mathlib.Core.Bool.{true, false}
 use mathlib.Core.List.{List}
 use Prim.Native.Nat.{ℕ, suc, _<_, _≤_}
 use native.Mathlib.Omega.{arith}
@@ -12,7 +11,6 @@ use lib.ListN.{length, getD, set, take, length-set}
 use lib.Seq.{getD-set-same, getD-set-other, getD-take, length-take-le}
 use borrow.Author.Tests.{eqb-true, eqb-false, eq-eqb, ne-eqb, ltb-true, ltb-false}
 use Rattle.rules.specs.Limits.{maxRows}
-use Rattle.rules.specs.Rows.{placeOf}
 use Rattle.rules.proofs.Bools.{by}
 use Rattle.rules.proofs.Exploration.{place-found, place-least, place-most}
 use Rattle.translate.specs.Index.{slots, Apart, numberAmong}

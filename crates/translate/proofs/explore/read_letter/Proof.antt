@@ -1,8 +1,8 @@
 -- `translate::explore::read_letter` meets its contract: a missing transition, and one that is there, each by its law of `Letters`.
-use mathlib.Core.Path.{_≡_, refl, sym, ap, _∙_, subst⁻¹}
+use mathlib.Core.Path.{_≡_, sym, _∙_, subst⁻¹}
 use mathlib.Core.Bool.{true, false}
 use mathlib.Core.List.{List}
-use Prim.Native.Nat.{ℕ, suc, _+_, _*_, _/_, _%_, _<_, _≤_}
+use Prim.Native.Nat.{ℕ, _*_, _<_, _≤_}
 use native.Mathlib.Nat.{mul-le-mul}
 use native.Mathlib.Omega.{arith}
 use borrow.Author.Needs.{needs}
@@ -15,8 +15,7 @@ use Rattle.rules.proofs.Refusals.{TakenTable, taken-table}
 use Rattle.tables.proofs.Cells.{cell-within}
 use Rattle.translate.specs.Keys.{span, sourceIn, rowKey, keyRow, IsRow, IsKey}
 use Rattle.translate.specs.Cells.{crossingKind, targetIn, cellWord}
-use Rattle.translate.specs.Exploring.{planIn, lettersOf, LetterSays}
-use Rattle.translate.specs.Filing.{rowsAfter}
+use Rattle.translate.specs.Exploring.{planIn, lettersOf}
 use Rattle.rules.specs.Rows.{Row, Step}
 use Rattle.translate.proofs.RowKeys.{row-is-key, key-below}
 use Rattle.translate.proofs.Settling.{number-most}

@@ -1,9 +1,7 @@
 -- `translate::filing::add_row` meets its contract: each array is written in one place.
 use mathlib.Core.Path.{refl}
 use native.Mathlib.Numerals.{add-one}
-use native.Mathlib.Omega.{arith}
 use borrow.Author.Needs.{needs}
-use Rattle.translate.proofs.Chains.{slot-below}
 use Rattle.translate.proofs.filing.add_row.Statement.{statement}
 use Rattle.translate.proofs.filing.add_row.Tie as tie
 

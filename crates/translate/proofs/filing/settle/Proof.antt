@@ -1,7 +1,6 @@
 -- `translate::filing::settle` meets its contract: the key is found, or is absent and there is no room, or its row is added.
 use mathlib.Core.Path.{_≡_}
 use Prim.Native.Nat.{ℕ, _<_}
-use native.Mathlib.Omega.{arith}
 use borrow.Author.Needs.{needs}
 use lib.ListN.{getD}
 use Rattle.translate.proofs.Settling.{settled-found, settled-full, settled-added}

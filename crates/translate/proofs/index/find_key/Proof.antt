@@ -1,11 +1,7 @@
 -- `translate::index::find_key` meets its contract. The invariant: the search stands at `at`, and every place of the key is below it.
-use mathlib.Core.Path.{_≡_, sym}
-use Prim.Native.Nat.{ℕ, suc, _+_, _-_, _<_, _≤_}
+use Prim.Native.Nat.{_-_}
 use native.Mathlib.Omega.{arith}
 use borrow.Author.Needs.{needs}
-use borrow.Author.Tests.{eqb-true, eqb-false}
-use lib.ListN.{length, getD}
-use Rattle.translate.specs.Index.{slotOf, slots}
 use Rattle.translate.proofs.Chains.{slot-below, Sought, sought-first, sought-next, next-below}
 use Rattle.translate.proofs.index.find_key.Statement.{statement}
 use Rattle.translate.proofs.index.find_key.Tie as tie
