@@ -3,6 +3,7 @@
 --     decoded-length, decoded-at, decoded-more     the rows that keys stand for
 --     number-decoded           a row's number among the rows is its key's number among the keys
 --     met-missing, met-there   what a transition leaves of the rows found
+--     target-there             the number in the cell of a transition that is there
 --     read-none                no cell is read yet
 --     read-more                one cell more is read
 --     step-known               a transition that is read leads to a row that is known

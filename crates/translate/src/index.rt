@@ -1,6 +1,6 @@
 // The index of keys: a chain of places for each slot, the latest first. Looking a key up costs the same however many there are.
 ghost use mathlib.Core.Path.{_≡_};
-ghost use Prim.Native.Nat.{suc, _≤_, _<_};
+ghost use Prim.Native.Nat.{_≤_};
 ghost use lib.ListN.{length};
 ghost use Rattle.translate.specs.Index.{slots, slotOf, Indexed, Finds};
 

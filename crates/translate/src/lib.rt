@@ -1,7 +1,7 @@
 // Translates a Rabin table into a parity table, by index appearance records.
 // It rests on `tables`, which checks a table and says what counts where, and on `records`. `translate_table` keeps the promise
 // `TranslateSays` of the rules, and with it demand 3 of the arrays as they are left, `TranslationAgrees`.
-use rules::limit::MAX_CELLS;
+use rules::limit::MAX_LETTERS;
 use rules::limit::MAX_ROWS;
 use rules::limit::MAX_STATES;
 use rules::refusal;
@@ -80,7 +80,7 @@ pub fn translate_table(
             rows: 0,
         };
     }
-    let mut words = [0; MAX_CELLS];
+    let mut words = [0; MAX_STATES as usize * MAX_LETTERS as usize];
     let mut entries = [0; MAX_STATES as usize];
     cells::write_cells(table, &inside, &counted, &mut words);
     cells::write_entries(table, &counted, &mut entries);
