@@ -1,6 +1,6 @@
 -- From what the translation found to what it promises: one law for each return.
 --     tooShort bs c a b d e    the capacity c or one of the lent arrays is out of range, for the table that the bytes say
---     Room, has-room           what holds where nothing is too short
+--     has-room                 what holds where nothing is too short
 --     room-kept                the exploration leaves the arrays as long as they were
 --     survey-fault             with an entry for each state that a table can have, a survey refuses nothing but the table
 --     survey-listed            what a survey leaves of a table that is taken, the states' entries by place
@@ -37,19 +37,11 @@ use Rattle.tables.specs.Parts.{Taken, statesOf, Listed}
 use Rattle.tables.specs.Surveys.{surveyFault}
 use Rattle.tables.proofs.Surveying.{listed}
 use Rattle.translate.specs.Arrays.{Beyond, Cleared, RowsCleared}
-use Rattle.translate.specs.Exploring.{planIn, lettersOf, ExploreSays}
+use Rattle.translate.specs.Exploring.{planIn, lettersOf, Room, ExploreSays}
 
 -- ---- room in the lent arrays
 abbrev pub tooShort : List ℕ → ℕ → List ℕ → List ℕ → List ℕ → List ℕ → Bool
 tooShort bs c a b d e = areShort c (lettersOf bs) (length a) (length b) (length d) (length e)
-
-pub record Room (bs : List ℕ) (c : ℕ) (a b d e : List ℕ) : Type 0 where
-  pub some-rows : 1 ≤ c
-  pub most-rows : c ≤ maxRows
-  pub target-room : c * lettersOf bs ≤ length a
-  pub priority-room : c * lettersOf bs ≤ length b
-  pub state-room : c ≤ length d
-  pub number-room : c ≤ length e
 
 pub has-room : (bs : List ℕ) (c : ℕ) (a b d e : List ℕ) → tooShort bs c a b d e ≡ false → Room bs c a b d e
 has-room bs c a b d e h =

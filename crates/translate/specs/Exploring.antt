@@ -5,6 +5,7 @@
 --     Known bs c n p keys .. ps    n rows are filed, the cells below p are read
 --     LetterSays bs c n i a ..     row i has been read by the letter a
 --     RowSays bs c n i ..          row i has been read by all letters
+--     Room bs c a b d e            the capacity c is in range, and the lent arrays have room for as many rows
 --     ExploreSays bs c ..          all rows have been read, or more than c were found
 use mathlib.Core.Path.{_≡_}
 use mathlib.Core.Bool.{true}
@@ -12,7 +13,7 @@ use mathlib.Core.List.{List}
 use Prim.Native.Nat.{ℕ, suc, _*_, _<_, _≤_}
 use lib.Dec.{ltb}
 use lib.ListN.{length, getD}
-use Rattle.rules.specs.Limits.{noRow}
+use Rattle.rules.specs.Limits.{maxRows, noRow}
 use Rattle.rules.specs.Systems.{cell}
 use Rattle.rules.specs.Records.{decimal}
 use Rattle.rules.specs.Rows.{Row, Plan, rowAt, numberOf, targetNumber, met, foundBy, rowsOf, isFull}
@@ -60,6 +61,15 @@ pub record RowSays (bs : List ℕ) (c n i : ℕ) (keys keys′ heads′ links′
   pub priority-rest : Beyond (c * lettersOf bs) ps ps′
   pub state-rest : Beyond c ss ss′
   pub number-rest : Beyond c es es′
+
+-- the lent arrays a, b, d, e: targets, priorities, source states, record numbers
+pub record Room (bs : List ℕ) (c : ℕ) (a b d e : List ℕ) : Type 0 where
+  pub some-rows : 1 ≤ c
+  pub most-rows : c ≤ maxRows
+  pub target-room : c * lettersOf bs ≤ length a
+  pub priority-room : c * lettersOf bs ≤ length b
+  pub state-room : c ≤ length d
+  pub number-room : c ≤ length e
 
 pub record ExploreSays (bs : List ℕ) (c : ℕ) (ss ss′ es es′ ts ts′ ps ps′ : List ℕ) (r : ℕ) : Type 0 where
   pub full : ltb c r ≡ isFull (planIn bs) c

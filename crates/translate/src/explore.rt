@@ -10,14 +10,13 @@ use crate::keys::SPAN;
 use rules::limit::MAX_ROWS;
 use rules::limit::NO_ROW;
 ghost use mathlib.Core.Path.{_≡_};
-ghost use Prim.Native.Nat.{_*_, _<_, _≤_};
-ghost use lib.ListN.{length, getD};
-ghost use Rattle.rules.specs.Limits.{maxRows};
+ghost use Prim.Native.Nat.{_*_, _<_};
+ghost use lib.ListN.{getD};
 ghost use Rattle.rules.specs.Systems.{cell};
 ghost use Rattle.rules.specs.Tables.{tableOf};
 ghost use Rattle.tables.specs.Parts.{Taken};
 ghost use Rattle.translate.specs.Cells.{AllCells, Entries};
-ghost use Rattle.translate.specs.Exploring.{lettersOf, Known, LetterSays, RowSays, ExploreSays};
+ghost use Rattle.translate.specs.Exploring.{lettersOf, Known, LetterSays, RowSays, Room, ExploreSays};
 
 // Reads row i, whose key is `key`, by the letter a, and gives how many rows are known then.
 fn read_letter(
@@ -113,7 +112,7 @@ pub(crate) fn explore(
     targets: &mut [u16],
     priorities: &mut [u8],
 ) -> usize
-    requires { ⌜ Taken (now table) × AllCells (tableOf (now table)) (now cells) × Entries (tableOf (now table)) (now entries) × (1 ≤ capacity) × (capacity ≤ maxRows) × (capacity ≤ length (now sources)) × (capacity ≤ length (now records)) × (capacity * lettersOf (now table) ≤ length (now targets)) × (capacity * lettersOf (now table) ≤ length (now priorities)) ⌝ }
+    requires { ⌜ Taken (now table) × AllCells (tableOf (now table)) (now cells) × Entries (tableOf (now table)) (now entries) × Room (now table) capacity (now targets) (now priorities) (now sources) (now records) ⌝ }
     ensures { λ r. ⌜ ExploreSays (now (table .entry)) capacity (now (sources .entry)) (now (sources .exit)) (now (records .entry)) (now (records .exit)) (now (targets .entry)) (now (targets .exit)) (now (priorities .entry)) (now (priorities .exit)) r ⌝ }
 {
     let mut keys = [0; MAX_ROWS];

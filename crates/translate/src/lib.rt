@@ -18,6 +18,10 @@ ghost use mathlib.Core.Path.{_≡_};
 ghost use Prim.Native.Nat.{_≤_};
 ghost use Rattle.rules.specs.Limits.{maxLetters};
 ghost use Rattle.rules.specs.Says.{areShort, TranslateSays, TranslationAgrees};
+ghost use Rattle.rules.specs.Tables.{tableOf};
+ghost use Rattle.tables.specs.Parts.{Taken, statesOf, Listed};
+ghost use Rattle.tables.specs.Surveys.{insideLetters, countedPairs};
+ghost use Rattle.translate.specs.Exploring.{Room, ExploreSays};
 
 // The refusal or 0, and the number of rows, 0 on a refusal.
 pub struct Translation {
@@ -42,6 +46,36 @@ fn are_short(
     }
     let cells = capacity * m;
     (targets < cells) | ((priorities < cells) | ((sources < capacity) | (records < capacity)))
+}
+
+// Finds the rows of a table that is taken, and writes them into arrays that have room.
+fn write_rows(
+    table: &[u8],
+    inside: &[u16],
+    counted: &[u8],
+    capacity: usize,
+    sources: &mut [u8],
+    records: &mut [u32],
+    targets: &mut [u16],
+    priorities: &mut [u8],
+) -> usize
+    requires { ⌜ Taken (now table) × Listed (statesOf (now table)) (insideLetters (tableOf (now table))) (now inside) × Listed (statesOf (now table)) (countedPairs (tableOf (now table))) (now counted) × Room (now table) capacity (now targets) (now priorities) (now sources) (now records) ⌝ }
+    ensures { λ r. ⌜ ExploreSays (now (table .entry)) capacity (now (sources .entry)) (now (sources .exit)) (now (records .entry)) (now (records .exit)) (now (targets .entry)) (now (targets .exit)) (now (priorities .entry)) (now (priorities .exit)) r ⌝ }
+{
+    let mut words = [0; MAX_STATES as usize * MAX_LETTERS as usize];
+    let mut entries = [0; MAX_STATES as usize];
+    cells::write_cells(table, inside, counted, &mut words);
+    cells::write_entries(table, counted, &mut entries);
+    explore::explore(
+        table,
+        &words,
+        &entries,
+        capacity,
+        sources,
+        records,
+        targets,
+        priorities,
+    )
 }
 
 // The parity table of a Rabin table, in the lent arrays.
@@ -80,14 +114,10 @@ pub fn translate_table(
             rows: 0,
         };
     }
-    let mut words = [0; MAX_STATES as usize * MAX_LETTERS as usize];
-    let mut entries = [0; MAX_STATES as usize];
-    cells::write_cells(table, &inside, &counted, &mut words);
-    cells::write_entries(table, &counted, &mut entries);
-    let rows = explore::explore(
+    let rows = write_rows(
         table,
-        &words,
-        &entries,
+        &inside,
+        &counted,
         capacity,
         sources,
         records,

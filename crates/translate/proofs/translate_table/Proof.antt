@@ -9,7 +9,8 @@ use Rattle.rules.specs.Tables.{tableOf, tableFault}
 use Rattle.rules.proofs.Refusals.{TakenTable, taken-table}
 use Rattle.tables.specs.Parts.{Taken, statesOf, Listed}
 use Rattle.tables.specs.Surveys.{insideLetters, countedPairs}
-use Rattle.translate.proofs.Promises.{tooShort, Room, has-room, room-kept, survey-fault, survey-listed, translate-refused, translate-short, translate-full, translate-done, promised}
+use Rattle.translate.specs.Exploring.{Room}
+use Rattle.translate.proofs.Promises.{tooShort, has-room, room-kept, survey-fault, survey-listed, translate-refused, translate-short, translate-full, translate-done, promised}
 use Rattle.translate.proofs.translate_table.Statement.{statement}
 use Rattle.translate.proofs.translate_table.Tie as tie
 
@@ -58,11 +59,11 @@ module _ (c : tie.Else2) where
   room = has-room _ _ _ _ _ _ fits
 
 -- the rows have been looked for
-abbrev explored : tie.After-slice-known8 → tie.After-explore
+abbrev explored : tie.After-slice-known8 → tie.After-write-rows
 explored c = c .before .before .before .before .before .before .before .before
 
-abbrev tests : tie.After-explore → tie.Else2
-tests c = c .before .before .before .before .before .before .before .before .before .before .before .before .before .before .before .before
+abbrev tests : tie.After-write-rows → tie.Else2
+tests c = c .before .before .before .before .before .before .before
 
 slice-aggregate-survey-table : tie.Need-slice-aggregate-survey-table
 slice-aggregate-survey-table c = search needs
@@ -89,50 +90,22 @@ returns-2 : tie.Need-returns-2
 returns-2 c =
     promised (translate-short _ (is-taken (c .before .before .before)) _ _ _ _ _ (sym (c .before .are-short .ensures) ∙ c .if2 .taken))
 
-slice-aggregate-write-cells : tie.Need-slice-aggregate-write-cells
-slice-aggregate-write-cells c = search needs
+slice-aggregate-write-rows : tie.Need-slice-aggregate-write-rows
+slice-aggregate-write-rows c = search needs
 
-slice-aggregate-write-cells-2 : tie.Need-slice-aggregate-write-cells-2
-slice-aggregate-write-cells-2 c = search needs
+slice-aggregate-write-rows-2 : tie.Need-slice-aggregate-write-rows-2
+slice-aggregate-write-rows-2 c = search needs
 
-slice-aggregate-write-cells-3 : tie.Need-slice-aggregate-write-cells-3
-slice-aggregate-write-cells-3 c = search needs
-
-write-cells-requires : tie.Need-write-cells-requires
-write-cells-requires c κs =
-    let t = taken (c .before .before .before) in
-    (is-taken t, inside-listed t, counted-listed t, omega (arith, checked t))
-
-slice-aggregate-write-entries : tie.Need-slice-aggregate-write-entries
-slice-aggregate-write-entries c = search needs
-
-slice-aggregate-write-entries-2 : tie.Need-slice-aggregate-write-entries-2
-slice-aggregate-write-entries-2 c = search needs
-
-write-entries-requires : tie.Need-write-entries-requires
-write-entries-requires c κs =
-    let t = taken (c .before .before .before .before .before .before .before) in
-    (is-taken t, counted-listed t, omega (arith, checked t))
-
-slice-aggregate-explore : tie.Need-slice-aggregate-explore
-slice-aggregate-explore c = search needs
-
-slice-aggregate-explore-2 : tie.Need-slice-aggregate-explore-2
-slice-aggregate-explore-2 c = search needs
-
-explore-requires : tie.Need-explore-requires
-explore-requires c κs =
-    let w : tie.After-write-entries = c .before .before .before .before .before .before .before in
-    let v : tie.After-write-cells = w .before .before .before .before in
-    let u : tie.Else2 = v .before .before .before .before in
-    let ok = room u in
-    (is-taken (taken u), v .write-cells .ensures, w .write-entries .ensures, omega arith, omega arith, omega arith, omega arith, omega arith, omega arith)
+write-rows-requires : tie.Need-write-rows-requires
+write-rows-requires c κs =
+    let u : tie.Else2 = c .before .before .before .before .before .before in
+    (is-taken (taken u), inside-listed (taken u), counted-listed (taken u), room u)
 
 clear-rows-requires : tie.Need-clear-rows-requires
 clear-rows-requires c κs =
     let v : tie.Then3 = c .before .before .before .before in
     let x = explored (v .before) in
-    omega (arith, checked (taken (tests x)), room-kept (room (tests x)) (x .explore .ensures))
+    omega (arith, checked (taken (tests x)), room-kept (room (tests x)) (x .write-rows .ensures))
 
 same-length : tie.Need-same-length
 same-length c = search needs
@@ -152,13 +125,13 @@ returns-3 c =
     let v : tie.Then3 = w .before .before .before .before .before in
     let x = explored (v .before) in
     let u = tests x in
-    promised (translate-full _ (is-taken (taken u)) _ _ _ _ _ (fits u) _ _ _ _ _ _ _ _ _ (x .explore .ensures) (v .if3 .taken) (w .clear-rows .ensures))
+    promised (translate-full _ (is-taken (taken u)) _ _ _ _ _ (fits u) _ _ _ _ _ _ _ _ _ (x .write-rows .ensures) (v .if3 .taken) (w .clear-rows .ensures))
 
 clear-rows-requires-2 : tie.Need-clear-rows-requires-2
 clear-rows-requires-2 c κs =
     let v : tie.Else3 = c .before .before .before .before in
     let x = explored (v .before) in
-    omega (arith, checked (taken (tests x)), room-kept (room (tests x)) (x .explore .ensures))
+    omega (arith, checked (taken (tests x)), room-kept (room (tests x)) (x .write-rows .ensures))
 
 same-length-5 : tie.Need-same-length-5
 same-length-5 c = search needs
@@ -178,7 +151,7 @@ returns-4 c =
     let v : tie.Else3 = w .before .before .before .before .before in
     let x = explored (v .before) in
     let u = tests x in
-    promised (translate-done _ (is-taken (taken u)) _ _ _ _ _ (fits u) _ _ _ _ _ _ _ _ _ (x .explore .ensures) (v .if3 .left) (w .clear-rows2 .ensures))
+    promised (translate-done _ (is-taken (taken u)) _ _ _ _ _ (fits u) _ _ _ _ _ _ _ _ _ (x .write-rows .ensures) (v .if3 .left) (w .clear-rows2 .ensures))
 
 pub translate-table-spec : {M : Type 1} → statement M
 translate-table-spec =
@@ -192,16 +165,9 @@ translate-table-spec =
     cast-m
     are-short-requires
     returns-2
-    slice-aggregate-write-cells
-    slice-aggregate-write-cells-2
-    slice-aggregate-write-cells-3
-    write-cells-requires
-    slice-aggregate-write-entries
-    slice-aggregate-write-entries-2
-    write-entries-requires
-    slice-aggregate-explore
-    slice-aggregate-explore-2
-    explore-requires
+    slice-aggregate-write-rows
+    slice-aggregate-write-rows-2
+    write-rows-requires
     clear-rows-requires
     same-length
     same-length-2

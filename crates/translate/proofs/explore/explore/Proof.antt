@@ -85,13 +85,13 @@ slice-aggregate-settle-3 c = search needs
 settle-requires : tie.Need-settle-requires Inv-loop μ-loop
 settle-requires c κs =
     let s = c .before .before .before .before .before .before .before .before .before .before .before .before .before .before in
-    (filed-none _ _ _ _ _ _ (s .pre .4) (s .pre .4) (omega arith) (s .pre .4) (s .pre .5) (s .pre .6) (zeros-at slots), key-below _ _ (table s .sizes .most-states) (first-code s))
+    (filed-none _ _ _ _ _ _ (s .pre .3 .most-rows) (s .pre .3 .most-rows) (omega arith) (s .pre .3 .most-rows) (s .pre .3 .state-room) (s .pre .3 .number-room) (zeros-at slots), key-below _ _ (table s .sizes .most-states) (first-code s))
 
 loop-holds : tie.Need-loop-holds Inv-loop μ-loop
 loop-holds c =
     let s = c .before .before .before .before .before .before .before .before .before .before .before .before .before .before .before .before .before .before .before .before .before .before in
     let call : tie.After-settle Inv-loop μ-loop = c .before .before .before .before .before .before .before in
-    (rows-begun _ _ _ _ _ _ _ _ _ _ _ _ _ _ (s .pre .3) (s .pre .4) (s .pre .7) (s .pre .8) (first-code s) (first-row s) (call .settle .ensures), call .settle .kept .1 .1 .1 .0, call .settle .kept .1 .1 .1 .1 .0, call .settle .kept .1 .1 .1 .1 .1 .0)
+    (rows-begun _ _ _ _ _ _ _ _ _ _ _ _ _ _ (s .pre .3 .some-rows) (s .pre .3 .most-rows) (s .pre .3 .target-room) (s .pre .3 .priority-room) (first-code s) (first-row s) (call .settle .ensures), call .settle .kept .1 .1 .1 .0, call .settle .kept .1 .1 .1 .1 .0, call .settle .kept .1 .1 .1 .1 .1 .0)
 
 slice-aggregate-read-row : tie.Need-slice-aggregate-read-row Inv-loop μ-loop
 slice-aggregate-read-row c = search needs
@@ -110,7 +110,7 @@ read-row-requires c κs =
 
 add-i : tie.Need-add-i Inv-loop μ-loop
 add-i c =
-    let turn : tie.In-loop Inv-loop μ-loop = c .before .before .before .before .before .before .before .before .before .before .before .before .before .before .before .before .before .before .before in omega (arith, tests turn, c .before .before .before .before .before .before .before .before .before .before .before .before .before .before .before .before .before .before .before .before .before .before .before .before .before .before .before .before .before .before .before .before .before .before .before .before .before .before .before .before .before .before .before .pre .4)
+    let turn : tie.In-loop Inv-loop μ-loop = c .before .before .before .before .before .before .before .before .before .before .before .before .before .before .before .before .before .before .before in omega (arith, tests turn, c .before .before .before .before .before .before .before .before .before .before .before .before .before .before .before .before .before .before .before .before .before .before .before .before .before .before .before .before .before .before .before .before .before .before .before .before .before .before .before .before .before .before .before .pre .3 .most-rows)
 
 loop-less : tie.Need-loop-less Inv-loop μ-loop
 loop-less c =

@@ -1,0 +1,65 @@
+-- `translate::write_rows` meets its contract: the exploration's, with the words of the cells and the keys of the entries.
+use native.Mathlib.Omega.{arith}
+use borrow.Author.Needs.{needs}
+use Rattle.rules.proofs.Refusals.{taken-table}
+use Rattle.translate.proofs.write_rows.Statement.{statement}
+use Rattle.translate.proofs.write_rows.Tie as tie
+
+slice-aggregate-write-cells : tie.Need-slice-aggregate-write-cells
+slice-aggregate-write-cells c = search needs
+
+write-cells-requires : tie.Need-write-cells-requires
+write-cells-requires c κs =
+    let s = c .before .before .before .before .before .before .before .before in (s .pre .0, s .pre .1, s .pre .2, omega (arith, taken-table _ (s .pre .0)))
+
+slice-aggregate-write-entries : tie.Need-slice-aggregate-write-entries
+slice-aggregate-write-entries c = search needs
+
+write-entries-requires : tie.Need-write-entries-requires
+write-entries-requires c κs =
+    let s = c .before .before .before .before .before .before .before .before .before .before .before in (s .pre .0, s .pre .2, omega (arith, taken-table _ (s .pre .0)))
+
+slice-aggregate-explore : tie.Need-slice-aggregate-explore
+slice-aggregate-explore c = search needs
+
+slice-aggregate-explore-2 : tie.Need-slice-aggregate-explore-2
+slice-aggregate-explore-2 c = search needs
+
+explore-requires : tie.Need-explore-requires
+explore-requires c κs =
+    let s = c .before .before .before .before .before .before .before .before .before .before .before .before .before .before .before .before .before .before .before in
+    let w : tie.After-write-entries = c .before .before .before .before .before .before .before in
+    let v : tie.After-write-cells = c .before .before .before .before .before .before .before .before .before .before in
+    (s .pre .0, v .write-cells .ensures, w .write-entries .ensures, s .pre .3)
+
+same-length : tie.Need-same-length
+same-length c = search needs
+
+same-length-2 : tie.Need-same-length-2
+same-length-2 c = search needs
+
+same-length-3 : tie.Need-same-length-3
+same-length-3 c = search needs
+
+same-length-4 : tie.Need-same-length-4
+same-length-4 c = search needs
+
+returns : tie.Need-returns
+returns c = c .before .before .before .before .before .before .before .before .explore .ensures
+
+pub write-rows-spec : {M : Type 1} → statement M
+write-rows-spec =
+    tie.close
+    (tie.spec
+    slice-aggregate-write-cells
+    write-cells-requires
+    slice-aggregate-write-entries
+    write-entries-requires
+    slice-aggregate-explore
+    slice-aggregate-explore-2
+    explore-requires
+    same-length
+    same-length-2
+    same-length-3
+    same-length-4
+    returns)
