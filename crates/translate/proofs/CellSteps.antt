@@ -54,7 +54,7 @@ pub priority-same : (m n : Marks) (o : List ℕ) → ((i : ℕ) → isIn i o ≡
 priority-same m n o h k = priority-same-from m n o 1 1 h k
 
 -- ---- the step of a row, by the word of its cell
-module _ (bs : List ℕ) (taken : Taken bs) (r : Row (List ℕ)) (good : IsRow (tableOf bs) r) (a : ℕ) (la : a < tableOf bs .letters) where
+module _ (bs : List ℕ) (taken : Taken bs) (r : Row (List ℕ)) (good : IsRow (tableOf bs) r) (a : ℕ) where
   abbrev t : Table
   t = tableOf bs
 

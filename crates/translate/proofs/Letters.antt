@@ -34,7 +34,7 @@ use Rattle.translate.proofs.CellSteps.{word-missing, word-there, word-k
 use Rattle.translate.proofs.Reading.{decoded-length, decoded-at, decoded-more, number-decoded, met-missing, met-there, target-there, step-known, read-more}
 
 -- ---- what the word of a cell says of the step of the row that a key stands for
-module _ (bs : List ℕ) (taken : Taken bs) (a : ℕ) (la : a < lettersOf bs) (key v word : ℕ) (is : key ≡ v) (code : IsKey (tableOf bs) v) (says : word ≡ cellWord (tableOf bs) (sourceIn key) a) where
+module _ (bs : List ℕ) (taken : Taken bs) (a key v word : ℕ) (is : key ≡ v) (code : IsKey (tableOf bs) v) (says : word ≡ cellWord (tableOf bs) (sourceIn key) a) where
   abbrev step : Step (Row (List ℕ))
   step = planIn bs .step (keyRow v) a
 
@@ -45,20 +45,20 @@ module _ (bs : List ℕ) (taken : Taken bs) (a : ℕ) (la : a < lettersOf bs) (k
   memory-is = ap wordIn (is ∙ sym (code .exact)) ∙ (row-word (tableOf bs) (taken-table bs taken .sizes .most-pairs) (keyRow v) (code .is-row))
 
   pub key-missing : ltb word crossingKind ≡ true → (step .there ≡ false) × (step .prio ≡ 0)
-  key-missing h = word-missing bs taken (keyRow v) (code .is-row) a la (rw word-is at h)
+  key-missing h = word-missing bs taken (keyRow v) (code .is-row) a (rw word-is at h)
 
   pub key-there : ltb word crossingKind ≡ false → (step .there ≡ true) × (targetIn word < tableOf bs .states) × IsRow (tableOf bs) (step .to)
-  key-there h = rw word-is (word-there bs taken (keyRow v) (code .is-row) a la (rw word-is at h))
+  key-there h = rw word-is (word-there bs taken (keyRow v) (code .is-row) a (rw word-is at h))
 
   pub key-priority : ltb word crossingKind ≡ false → priority (marksIn (prohibitedIn word) (requiredIn word)) (places (wordIn key)) ≡ step .prio
-  key-priority h = rw (memory-is, word-is) (word-priority bs taken (keyRow v) (code .is-row) a la (rw word-is at h))
+  key-priority h = rw (memory-is, word-is) (word-priority bs taken (keyRow v) (code .is-row) a (rw word-is at h))
 
   pub key-next : ltb word crossingKind ≡ false → (entries : List ℕ) → Entries (tableOf bs) entries
       → pick (ltb word insideKind) (getD entries (targetIn word) 0) (keyOf (targetIn word) (packed (moved asTheyStood (isMarked (prohibitedIn word)) (places (wordIn key))))) ≡ rowKey (step .to)
   key-next h entries e =
       rw
       (e .entry (targetIn word) (key-there h .1), memory-is, word-is)
-      (word-key bs taken (keyRow v) (code .is-row) a la (rw word-is at h))
+      (word-key bs taken (keyRow v) (code .is-row) a (rw word-is at h))
 
 -- ---- a letter is read
 pub key-row : (bs keys : List ℕ) (n i : ℕ) → i < n → rowAt (planIn bs) (rowsIn n keys) i ≡ keyRow (getD keys i 0)
@@ -147,27 +147,23 @@ module _ (bs : List ℕ) (taken : Taken bs) (c n i a : ℕ) (keys heads links ss
       met-is : more ≡ pick (eqb number n) (rs ++ (x .to ∷ [])) rs
       met-is = met-there g (table-same t) rs r a number (rw step-same there) (rw step-same number-is) ∙ rw (rows-many, step-same)
 
-      -- a row more, or none
-      module _ {C : Type 0} where
-        added-or-known : (eqb number n ≡ true → C) → (eqb number n ≡ false → C) → C
-        added-or-known new old = by (eqb number n) new old
-
+      -- from here on by cases: the row is a new one, or was known
       room-more : after ≤ c → eqb number n ≡ true → n < length keys
       room-more h e = omega (arith, rw e at h, k .filed .key-room)
 
       count-after : after ≡ length more
       count-after =
-          added-or-known (λ e. rw (met-is, e) (simp length-append (omega (arith, rows-many)))) (λ e. rw (met-is, e) (sym rows-many))
+          by (eqb number n) (λ e. rw (met-is, e) (simp length-append (omega (arith, rows-many)))) (λ e. rw (met-is, e) (sym rows-many))
 
       rows-after : after ≤ c → rowsIn after keys′ ≡ more
       rows-after h =
-          added-or-known
+          by (eqb number n)
           (λ e. rw (s .key-array h, met-is, e) (decoded-more keyRow n keys key (room-more h e) ∙ rw to-row))
           (λ e. rw (s .key-array h, met-is, e))
 
       keys-front : after ≤ c → (j : ℕ) → j < n → getD keys′ j 0 ≡ getD keys j 0
       keys-front h j l =
-          added-or-known
+          by (eqb number n)
           (λ e. rw (s .key-array h, e) (getD-set-other keys n j key 0 (λ z. omega arith)))
           (λ e. rw (s .key-array h, e))
 
@@ -176,7 +172,7 @@ module _ (bs : List ℕ) (taken : Taken bs) (c n i a : ℕ) (keys heads links ss
           by
           (ltb j n)
           (λ b. let lj = ltb-true j n b in rw (keys-front h j lj) (k .coded j lj))
-          (λ b. added-or-known (λ e. last e (omega (arith, rw e at l, ltb-false j n b))) (λ e. absurd (omega (arith, rw e at l, ltb-false j n b))))
+          (λ b. by (eqb number n) (λ e. last e (omega (arith, rw e at l, ltb-false j n b))) (λ e. absurd (omega (arith, rw e at l, ltb-false j n b))))
         where
           last : eqb number n ≡ true → j ≡ n → IsKey t (getD keys′ j 0)
           last e z =

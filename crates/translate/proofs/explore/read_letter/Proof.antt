@@ -68,7 +68,7 @@ module _ (c : tie.Else1) where
   present = sym (c .before .is-missing .ensures) ∙ c .if1 .left
 
   there : (x .there ≡ true) × (targetIn (word s) < tableOf (bytes s) .states) × IsRow (tableOf (bytes s)) (x .to)
-  there = key-there (bytes s) (s .pre .0) (s .args .a) (s .pre .4) _ _ _ (s .pre .5) (code s) (word-is s) present
+  there = key-there (bytes s) (s .pre .0) (s .args .a) _ _ _ (s .pre .5) (code s) (word-is s) present
 
 -- its target's key is worked out
 module _ (c : tie.After-next-key) where
@@ -76,7 +76,7 @@ module _ (c : tie.After-next-key) where
   o = c .before
 
   next-is : c .next-key .result ≡ rowKey (x o .to)
-  next-is = c .next-key .ensures ∙ key-next (bytes (s o)) (s o .pre .0) (s o .args .a) (s o .pre .4) _ _ _ (s o .pre .5) (code (s o)) (word-is (s o)) (present o) (s o .args .entries .now) (s o .pre .2)
+  next-is = c .next-key .ensures ∙ key-next (bytes (s o)) (s o .pre .0) (s o .args .a) _ _ _ (s o .pre .5) (code (s o)) (word-is (s o)) (present o) (s o .args .entries .now) (s o .pre .2)
 
   next-below : c .next-key .result < 256 * span
   next-below =
@@ -100,7 +100,7 @@ priority-is : (c : tie.After-priority-of) → c .priority-of .result ≡ x (o (n
 priority-is c =
     let l = o (nk (c .before)) in
     let t = s l in
-    c .priority-of .ensures ∙ key-priority (bytes t) (t .pre .0) (t .args .a) (t .pre .4) _ _ _ (t .pre .5) (code t) (word-is t) (present l)
+    c .priority-of .ensures ∙ key-priority (bytes t) (t .pre .0) (t .args .a) _ _ _ (t .pre .5) (code t) (word-is t) (present l)
 
 shared-slice-read-m : tie.Need-shared-slice-read-m
 shared-slice-read-m c =
@@ -161,7 +161,7 @@ same-length-2 c = simp length-set
 returns : tie.Need-returns
 returns c =
     let s = c .before .before .before .before .before .before .before .before .before .before .before .before .before .before in
-    let gone = key-missing (bytes s) (s .pre .0) (s .args .a) (s .pre .4) _ _ _ (s .pre .5) (code s) (word-is s) (sym (c .before .is-missing .ensures) ∙ c .if1 .taken) in
+    let gone = key-missing (bytes s) (s .pre .0) (s .args .a) _ _ _ (s .pre .5) (code s) (word-is s) (sym (c .before .is-missing .ensures) ∙ c .if1 .taken) in
     letter-missing (bytes s) (s .pre .0) _ _ _ _ _ _ _ _ _ _ _ (s .pre .3) (s .pre .4) (s .pre .6) (gone .0) (gone .1)
 
 next-key-requires : tie.Need-next-key-requires
