@@ -11,19 +11,23 @@ const ROWS: usize = 5;
 
 const CELLS: usize = 10;
 
+// Prints a number and a blank.
 fn put(n: u64) {
     io::print_decimal(STDOUT_FILENO, n);
     io::write_all(STDOUT_FILENO, b" ");
 }
 
+// The same for a byte.
 fn put_byte(n: u8) {
     put(n as u64);
 }
 
+// The same for a target.
 fn put_target(n: u16) {
     put(n as u64);
 }
 
+// Ends a line.
 fn end_line() {
     io::write_all(STDOUT_FILENO, b"\n");
 }

@@ -141,7 +141,7 @@ module _ (bs : List ℕ) (taken : Taken bs) (c n i a : ℕ) (keys heads links ss
       number-is : number ≡ numberOf g (x .to) rs
       number-is =
           let room : n ≤ length keys = omega (arith, k .filed .few, k .filed .key-room) in
-          let same = number-decoded g (table-same t) rowKey keyRow n keys room (record { exact = λ j l. k .coded j l .exact }) (x .to) (row-of-key t few-pairs (x .to) good) in
+          let same = number-decoded g (table-same t) rowKey keyRow n keys room (λ j l. k .coded j l .exact) (x .to) (row-of-key t few-pairs (x .to) good) in
           s .number ∙ rw is-key (sym same)
 
       met-is : more ≡ pick (eqb number n) (rs ++ (x .to ∷ [])) rs

@@ -1,5 +1,4 @@
 -- The exploration's turns, over any plan and any way to read its rows from keys.
---     Coding                   keys that stand for rows: each is read back as the row whose key it is, and no row has two
 --     decoded-length, decoded-at, decoded-more     the rows that keys stand for
 --     number-decoded           a row's number among the rows is its key's number among the keys
 --     met-missing, met-there   what a transition leaves of the rows found
@@ -40,18 +39,15 @@ module _ {A : Type 0} (decode : ℕ → A) where
       tabulate-last (λ i. decode (getD (set keys n key) i 0)) n 0
       ∙ rw (tabulate-same (λ i. decode (getD (set keys n key) i 0)) (λ i. decode (getD keys i 0)) n 0 (λ i b u. ap decode (getD-set-other keys n i key 0 (λ z. omega arith))), e, getD-set-same keys n key 0 l)
 
--- a key stands for the row whose key it is
-pub record Coding {A : Type 0} (encode : A → ℕ) (decode : ℕ → A) (n : ℕ) (keys : List ℕ) : Type 0 where
-  pub exact : (i : ℕ) → i < n → encode (decode (getD keys i 0)) ≡ getD keys i 0
-
 pub target-there : {A : Type 0} (g : Plan A) (none : ℕ) (rs : List A) (r : A) (a : ℕ) → g .step r a .there ≡ true
     → targetNumber g none rs r a ≡ numberOf g (g .step r a .to) rs
 target-there g none rs r a t = rw t
 
 module _ {A : Type 0} (g : Plan A) (law : SameIsEqual g) where
-  pub number-decoded : (encode : A → ℕ) (decode : ℕ → A) (n : ℕ) (keys : List ℕ) → n ≤ length keys → Coding encode decode n keys
-      → (x : A) → decode (encode x) ≡ x → numberOf g x (decoded decode n keys) ≡ numberAmong (encode x) n keys
-  number-decoded encode decode n keys room code x back =
+  -- where each key is the key of what it stands for
+  pub number-decoded : (encode : A → ℕ) (decode : ℕ → A) (n : ℕ) (keys : List ℕ) → n ≤ length keys
+      → ((i : ℕ) → i < n → encode (decode (getD keys i 0)) ≡ getD keys i 0) → (x : A) → decode (encode x) ≡ x → numberOf g x (decoded decode n keys) ≡ numberAmong (encode x) n keys
+  number-decoded encode decode n keys room exact x back =
       place-same
       (g .same x)
       (λ v. eqb (encode x) v)
@@ -72,7 +68,7 @@ module _ {A : Type 0} (g : Plan A) (law : SameIsEqual g) where
           apart e =
               by
               (g .same x (decode (getD keys i 0)))
-              (λ h. absurd (eqb-false (encode x) (getD keys i 0) e (ap encode (law .equal x (decode (getD keys i 0)) h) ∙ code .exact i l)))
+              (λ h. absurd (eqb-false (encode x) (getD keys i 0) e (ap encode (law .equal x (decode (getD keys i 0)) h) ∙ exact i l)))
               (λ h. h)
 
   -- ---- what a transition leaves of the rows found

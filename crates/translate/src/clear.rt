@@ -1,9 +1,10 @@
-// Clears a part of an array, one function for each width.
+// Clears what stands behind the rows that are kept. Each `clear_` function clears the places from `from` up to `to`, one function for each width.
 ghost use Prim.Native.Nat.{_*_, _≤_};
 ghost use lib.ListN.{length};
 ghost use Rattle.rules.specs.Limits.{maxLetters, maxRows};
 ghost use Rattle.translate.specs.Arrays.{Cleared, RowsCleared};
 
+// Clears a part of an array of bytes.
 fn clear_u8(array: &mut [u8], from: usize, to: usize)
     requires { ⌜ (from ≤ to) × (to ≤ length (now array)) ⌝ }
     ensures { λ _. ⌜ Cleared from to (now (array .entry)) (now (array .exit)) ⌝ }
@@ -15,6 +16,7 @@ fn clear_u8(array: &mut [u8], from: usize, to: usize)
     }
 }
 
+// Clears a part of an array of 16-bit numbers.
 fn clear_u16(array: &mut [u16], from: usize, to: usize)
     requires { ⌜ (from ≤ to) × (to ≤ length (now array)) ⌝ }
     ensures { λ _. ⌜ Cleared from to (now (array .entry)) (now (array .exit)) ⌝ }
@@ -26,6 +28,7 @@ fn clear_u16(array: &mut [u16], from: usize, to: usize)
     }
 }
 
+// Clears a part of an array of 32-bit numbers.
 fn clear_u32(array: &mut [u32], from: usize, to: usize)
     requires { ⌜ (from ≤ to) × (to ≤ length (now array)) ⌝ }
     ensures { λ _. ⌜ Cleared from to (now (array .entry)) (now (array .exit)) ⌝ }

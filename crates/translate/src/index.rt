@@ -4,6 +4,7 @@ ghost use Prim.Native.Nat.{_≤_};
 ghost use lib.ListN.{length};
 ghost use Rattle.translate.specs.Index.{slots, slotOf, Indexed, Finds};
 
+// How many chains there are.
 pub(crate) const SLOTS: usize = 8192;
 
 // The place of a key, or that it is absent.
