@@ -2,6 +2,7 @@
 --     tooShort bs c a b d e    the capacity c or one of the lent arrays is out of range, for the table that the bytes say
 --     has-room                 what holds where nothing is too short
 --     room-kept                the exploration leaves the arrays as long as they were
+--     kept-few                 no more rows are kept than there is room for
 --     survey-fault             with an entry for each state that a table can have, a survey refuses nothing but the table
 --     survey-listed            what a survey leaves of a table that is taken, the states' entries by place
 --     translate-refused        the table's own refusal
@@ -37,7 +38,7 @@ use Rattle.tables.specs.Parts.{Taken, statesOf, Listed}
 use Rattle.tables.specs.Surveys.{surveyFault}
 use Rattle.tables.proofs.Surveying.{listed}
 use Rattle.translate.specs.Arrays.{Beyond, Cleared, RowsCleared}
-use Rattle.translate.specs.Exploring.{planIn, lettersOf, Room, ExploreSays}
+use Rattle.translate.specs.Exploring.{planIn, lettersOf, Room, ExploreSays, keptRows}
 
 -- ---- room in the lent arrays
 abbrev pub tooShort : List ℕ → ℕ → List ℕ → List ℕ → List ℕ → List ℕ → Bool
@@ -74,6 +75,10 @@ room-kept room found =
       state-room = rw (found .state-rest .size) (room .state-room);
       number-room = rw (found .number-rest .size) (room .number-room);
     }
+
+-- no more rows are kept than there is room for
+pub kept-few : (c r : ℕ) → keptRows c r ≤ c
+kept-few c r = by (ltb c r) (λ e. rw e (omega arith)) (λ e. rw e (ltb-false c r e))
 
 -- ---- refusals
 when-below : {k : ℕ} (b : Bool) (n : ℕ) → n ≤ k → when b n ≤ k
@@ -198,9 +203,11 @@ module _ (bs : List ℕ) (taken : Taken bs) (c : ℕ) (a b d e : List ℕ) where
     room : Room bs c a b d e
     room = has-room bs c a b d e fits
 
-    pub translate-full : c < r → RowsCleared (lettersOf bs) 0 c a₁ a′ b₁ b′ d₁ d′ e₁ e′ → TranslateSays bs c a a′ b b′ d d′ e e′ Refusal.full 0
+    pub translate-full : c < r → (k : ℕ) → k ≡ keptRows c r → RowsCleared (lettersOf bs) k c a₁ a′ b₁ b′ d₁ d′ e₁ e′ → TranslateSays bs c a a′ b b′ d d′ e e′ Refusal.full 0
     unfolding translateFault
-    translate-full more clear =
+    translate-full more k is clears =
+        let none : k ≡ 0 = is ∙ rw (lt-ltb c r more) in
+        let clear = rw none at clears in
         record {
           refusal = rw (taken, fits, ← found .full, lt-ltb c r more);
           count = refl;
@@ -210,16 +217,18 @@ module _ (bs : List ℕ) (taken : Taken bs) (c : ℕ) (a b d e : List ℕ) where
           record-array = cleared-is refl (room .number-room) (found .number-rest) (clear .number-array);
         }
 
-    pub translate-done : r ≤ c → RowsCleared (lettersOf bs) r c a₁ a′ b₁ b′ d₁ d′ e₁ e′ → TranslateSays bs c a a′ b b′ d d′ e e′ 0 r
+    pub translate-done : r ≤ c → (k : ℕ) → k ≡ keptRows c r → RowsCleared (lettersOf bs) k c a₁ a′ b₁ b′ d₁ d′ e₁ e′ → TranslateSays bs c a a′ b b′ d d′ e e′ 0 k
     unfolding translateFault
-    translate-done few clear =
+    translate-done few k is clears =
+        let all : k ≡ r = is ∙ rw (le-ltb c r few) in
+        let clear = rw all at clears in
         let g = planIn bs in
         let rs = tableRows bs c in
         let n = found .count few in
         let some = taken-table bs taken .sizes .some-letters in
         record {
           refusal = rw (taken, fits, ← found .full, le-ltb c r few);
-          count = n;
+          count = all ∙ n;
           target-array = cells-padded rs (g .first) n few (targetNumber g noRow rs) some (room .target-room) (found .target-rest) (clear .target-array) (found .read few .targets);
           priority-array = cells-padded rs (g .first) n few (λ x y. g .step x y .prio) some (room .priority-room) (found .priority-rest) (clear .priority-array) (found .read few .priorities);
           state-array = rows-padded rs (g .first) n few (λ x. x .source) (room .state-room) (found .state-rest) (clear .state-array) (found .states few);

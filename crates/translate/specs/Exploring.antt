@@ -7,12 +7,14 @@
 --     RowSays bs c n i ..          row i has been read by all letters
 --     Room bs c a b d e            the capacity c is in range, and the lent arrays have room for as many rows
 --     ExploreSays bs c ..          all rows have been read, or more than c were found
+--     keptRows c r                 how many of r rows found are kept: none if there are more than c
 use mathlib.Core.Path.{_≡_}
 use mathlib.Core.Bool.{true}
 use mathlib.Core.List.{List}
 use Prim.Native.Nat.{ℕ, suc, _*_, _<_, _≤_}
 use lib.Dec.{ltb}
 use lib.ListN.{length, getD}
+use Rattle.rules.specs.Basics.{pick}
 use Rattle.rules.specs.Limits.{maxRows, noRow}
 use Rattle.rules.specs.Systems.{cell}
 use Rattle.rules.specs.Records.{decimal}
@@ -81,3 +83,6 @@ pub record ExploreSays (bs : List ℕ) (c : ℕ) (ss ss′ es es′ ts ts′ ps 
   pub priority-rest : Beyond (c * lettersOf bs) ps ps′
   pub state-rest : Beyond c ss ss′
   pub number-rest : Beyond c es es′
+
+abbrev pub keptRows : ℕ → ℕ → ℕ
+keptRows c r = pick (ltb c r) 0 r

@@ -21,7 +21,7 @@ ghost use Rattle.rules.specs.Says.{areShort, TranslateSays, TranslationAgrees};
 ghost use Rattle.rules.specs.Tables.{tableOf};
 ghost use Rattle.tables.specs.Parts.{Taken, statesOf, Listed};
 ghost use Rattle.tables.specs.Surveys.{insideLetters, countedPairs};
-ghost use Rattle.translate.specs.Exploring.{Room, ExploreSays};
+ghost use Rattle.translate.specs.Exploring.{Room, ExploreSays, keptRows};
 
 // The refusal or 0, and the number of rows, 0 on a refusal.
 pub struct Translation {
@@ -78,6 +78,13 @@ fn write_rows(
     )
 }
 
+// How many of the rows found are kept: none where there are more than the capacity.
+fn kept_rows(capacity: usize, rows: usize) -> usize
+    ensures { λ r. ⌜ r ≡ keptRows capacity rows ⌝ }
+{
+    if capacity < rows { 0 } else { rows }
+}
+
 // The parity table of a Rabin table, in the lent arrays.
 pub fn translate_table(
     table: &[u8],
@@ -114,7 +121,7 @@ pub fn translate_table(
             rows: 0,
         };
     }
-    let rows = write_rows(
+    let found = write_rows(
         table,
         &inside,
         &counted,
@@ -124,13 +131,13 @@ pub fn translate_table(
         targets,
         priorities,
     );
-    if capacity < rows {
-        clear::clear_rows(m, 0, capacity, targets, priorities, sources, records);
+    let rows = kept_rows(capacity, found);
+    clear::clear_rows(m, rows, capacity, targets, priorities, sources, records);
+    if capacity < found {
         return Translation {
             number: refusal::FULL,
             rows: 0,
         };
     }
-    clear::clear_rows(m, rows, capacity, targets, priorities, sources, records);
     Translation { number: 0, rows }
 }

@@ -10,7 +10,7 @@ use Rattle.rules.proofs.Refusals.{TakenTable, taken-table}
 use Rattle.tables.specs.Parts.{Taken, statesOf, Listed}
 use Rattle.tables.specs.Surveys.{insideLetters, countedPairs}
 use Rattle.translate.specs.Exploring.{Room}
-use Rattle.translate.proofs.Promises.{tooShort, has-room, room-kept, survey-fault, survey-listed, translate-refused, translate-short, translate-full, translate-done, promised}
+use Rattle.translate.proofs.Promises.{tooShort, has-room, room-kept, survey-fault, survey-listed, kept-few, translate-refused, translate-short, translate-full, translate-done, promised}
 use Rattle.translate.proofs.translate_table.Statement.{statement}
 use Rattle.translate.proofs.translate_table.Tie as tie
 
@@ -65,6 +65,13 @@ explored c = c .before .before .before .before .before .before .before .before
 abbrev tests : tie.After-write-rows → tie.Else2
 tests c = c .before .before .before .before .before .before .before
 
+-- what stands behind the rows that are kept has been cleared
+abbrev cleared : tie.After-slice-known12 → tie.After-clear-rows
+cleared c = c .before .before .before .before .before .before .before .before
+
+abbrev kept : tie.After-clear-rows → tie.After-kept-rows
+kept c = c .before .before .before .before .before
+
 slice-aggregate-survey-table : tie.Need-slice-aggregate-survey-table
 slice-aggregate-survey-table c = search needs
 
@@ -101,11 +108,15 @@ write-rows-requires c κs =
     let u : tie.Else2 = c .before .before .before .before .before .before in
     (is-taken (taken u), inside-listed (taken u), counted-listed (taken u), room u)
 
+kept-rows-requires : tie.Need-kept-rows-requires
+kept-rows-requires c κs = search needs
+
 clear-rows-requires : tie.Need-clear-rows-requires
 clear-rows-requires c κs =
-    let v : tie.Then3 = c .before .before .before .before in
+    let v : tie.After-kept-rows = c .before .before .before .before in
     let x = explored (v .before) in
-    omega (arith, checked (taken (tests x)), room-kept (room (tests x)) (x .write-rows .ensures))
+    let few = kept-few (given (tests x) .args .capacity) (x .write-rows .result) in
+    omega (arith, v .kept-rows .ensures, checked (taken (tests x)), room-kept (room (tests x)) (x .write-rows .ensures))
 
 same-length : tie.Need-same-length
 same-length c = search needs
@@ -121,17 +132,10 @@ same-length-4 c = search needs
 
 returns-3 : tie.Need-returns-3
 returns-3 c =
-    let w : tie.After-clear-rows = c .before .before .before .before .before .before .before .before in
-    let v : tie.Then3 = w .before .before .before .before .before in
-    let x = explored (v .before) in
+    let w = cleared (c .before) in
+    let x = explored (kept w .before) in
     let u = tests x in
-    promised (translate-full _ (is-taken (taken u)) _ _ _ _ _ (fits u) _ _ _ _ _ _ _ _ _ (x .write-rows .ensures) (v .if3 .taken) (w .clear-rows .ensures))
-
-clear-rows-requires-2 : tie.Need-clear-rows-requires-2
-clear-rows-requires-2 c κs =
-    let v : tie.Else3 = c .before .before .before .before in
-    let x = explored (v .before) in
-    omega (arith, checked (taken (tests x)), room-kept (room (tests x)) (x .write-rows .ensures))
+    promised (translate-full _ (is-taken (taken u)) _ _ _ _ _ (fits u) _ _ _ _ _ _ _ _ _ (x .write-rows .ensures) (c .if3 .taken) _ (kept w .kept-rows .ensures) (w .clear-rows .ensures))
 
 same-length-5 : tie.Need-same-length-5
 same-length-5 c = search needs
@@ -147,11 +151,10 @@ same-length-8 c = search needs
 
 returns-4 : tie.Need-returns-4
 returns-4 c =
-    let w : tie.After-clear-rows2 = c .before .before .before .before .before .before .before .before in
-    let v : tie.Else3 = w .before .before .before .before .before in
-    let x = explored (v .before) in
+    let w = cleared (c .before) in
+    let x = explored (kept w .before) in
     let u = tests x in
-    promised (translate-done _ (is-taken (taken u)) _ _ _ _ _ (fits u) _ _ _ _ _ _ _ _ _ (x .write-rows .ensures) (v .if3 .left) (w .clear-rows2 .ensures))
+    promised (translate-done _ (is-taken (taken u)) _ _ _ _ _ (fits u) _ _ _ _ _ _ _ _ _ (x .write-rows .ensures) (c .if3 .left) _ (kept w .kept-rows .ensures) (w .clear-rows .ensures))
 
 pub translate-table-spec : {M : Type 1} → statement M
 translate-table-spec =
@@ -168,13 +171,13 @@ translate-table-spec =
     slice-aggregate-write-rows
     slice-aggregate-write-rows-2
     write-rows-requires
+    kept-rows-requires
     clear-rows-requires
     same-length
     same-length-2
     same-length-3
     same-length-4
     returns-3
-    clear-rows-requires-2
     same-length-5
     same-length-6
     same-length-7
