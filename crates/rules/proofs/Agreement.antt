@@ -5,17 +5,18 @@
 --                          then the two judgements of every looped word are the same, the count of a stop included
 use mathlib.Core.Path.{_≡_, refl, sym, ap, _∙_}
 use mathlib.Core.Logic.{⊎-elim}
-use mathlib.Core.Bool.{Bool, true, false}
+use mathlib.Core.Bool.{Bool, false}
 use mathlib.Core.List.{List, _++_}
 use Prim.Native.Nat.{ℕ, zero, suc, _+_, _≤_, _<_}
 use native.Mathlib.Omega.{arith}
 use lib.ListN.{length, length-append}
 use Rattle.rules.specs.Basics.{pick, SameSet, repeated}
 use Rattle.rules.specs.Systems.{System, Path, here, step}
-use Rattle.rules.specs.Runs.{At, Taken, passFrom, strayLetter, settled, recurring, Stop, MeetsMissing}
-use Rattle.rules.specs.Answers.{accepts, rejects, stops, judgedBy}
+use Rattle.rules.specs.Runs.{Taken, passFrom, strayLetter, follow, turn, recurring, Stop}
+use Rattle.rules.specs.Answers.{accepts, rejects, judgedBy}
 use Rattle.rules.proofs.Orbits.{iter-add}
-use Rattle.rules.proofs.Runs.{path-end, path-below, path-or-stop, turn, follow, steady-later, Endless, endless-path, endless-settled, endless-window, run-view, stops-view}
+use Rattle.rules.proofs.Judging.{judged-endless, judged-missing}
+use Rattle.rules.proofs.Runs.{path-end, path-below, path-or-stop, steady-later, Endless, endless-path, endless-window, run-view}
 
 pub record Projects (P S : System) (f : ℕ → ℕ) : Type 0 where
   pub same-letters : P .letters ≡ S .letters
@@ -27,13 +28,6 @@ pub record Projects (P S : System) (f : ℕ → ℕ) : Type 0 where
 repeated-some : {A : Type 0} (n : ℕ) (l : List A) → 0 < n → 0 < length l → 0 < length (repeated n l)
 repeated-some zero l a b = a
 repeated-some (suc n) l a b = simp length-append (omega arith)
-
-module _ (s : System) (q : ℕ) (lead l : List ℕ) (good : List Taken → Bool) where
-  pub judged-endless : Endless s q lead l → judgedBy s q lead l good ≡ pick (good (recurring s q lead l)) accepts rejects
-  judged-endless e = rw (ap (λ (z : At). z .stopped) (endless-settled s q lead l e))
-
-  pub judged-stopped : settled s q lead l .stopped ≡ true → judgedBy s q lead l good ≡ stops (settled s q lead l .read)
-  judged-stopped h = rw h
 
 module _ (P S : System) (f : ℕ → ℕ) (sim : Projects P S f) where
   pub path-projects : {p : ℕ} {w : List ℕ} {q : ℕ} → p < P .states → Path P p w q → Path S (f p) w (f q)
@@ -109,7 +103,5 @@ module _ (P S : System) (f : ℕ → ℕ) (sim : Projects P S f) where
           stopped : Stop P p (lead ++ repeated (P .states) l) → judgedBy P p lead l goodP ≡ judgedBy S (f p) lead l goodS
           stopped x =
               let i = length (x .before) in
-              let met : MeetsMissing S (f p) lead l i = record { repetitions = P .states; stop = stop-projects b x; count = refl } in
-              let there = stops-view S (f p) lead l (sim .state p b) lead-ok′ l-ok′ i .1 met in
-              let here′ = stops-view P p lead l b lead-ok l-ok i .1 (record { repetitions = P .states; stop = x; count = refl }) in
-              judged-stopped P p lead l goodP (here′ .0) ∙ ap stops (here′ .1 ∙ sym (there .1)) ∙ sym (judged-stopped S (f p) lead l goodS (there .0))
+              judged-missing P p lead l goodP b lead-ok l-ok i (record { repetitions = P .states; stop = x; count = refl })
+              ∙ sym (judged-missing S (f p) lead l goodS (sim .state p b) lead-ok′ l-ok′ i (record { repetitions = P .states; stop = stop-projects b x; count = refl }))

@@ -1,4 +1,5 @@
 -- What stands where in an array that joins one list for each row, with whatever stands behind it.
+--     getD-any                         below the length the default is not looked at
 --     tabulate-length, tabulate-at, tabulate-last, tabulate-same     a tabulated list
 --     cell-before, cell-same, cell-split     a place is the cell of one row and one letter only
 --     joined-length, joined-at         lists of one length, joined: the cell of row i and letter a is number i · m + a
@@ -19,6 +20,11 @@ use Rattle.rules.specs.Basics.{any, tabulate, joined}
 use Rattle.rules.specs.Systems.{cell}
 use Rattle.rules.proofs.Bools.{by}
 use Rattle.rules.proofs.Sets.{any-append}
+
+pub getD-any : (xs : List ℕ) (i d e : ℕ) → i < length xs → getD xs i d ≡ getD xs i e
+getD-any [] i d e l = absurd (omega arith)
+getD-any (x ∷ xs) zero d e l = refl
+getD-any (x ∷ xs) (suc i) d e l = getD-any xs i d e (omega arith)
 
 module _ {B : Type 0} (h : ℕ → B) where
   pub tabulate-length : (n i : ℕ) → length (tabulate n i h) ≡ n

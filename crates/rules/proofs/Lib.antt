@@ -7,6 +7,7 @@ pub mod Appearance
 pub mod Pigeonhole
 pub mod Orbits
 pub mod Runs
+pub mod Judging
 pub mod Walks
 pub mod Agreement
 pub mod Exploration

@@ -1,5 +1,4 @@
 -- A number that is taken on by one function again and again: what comes back, and when.
---     iter f r p          p, taken on r times
 --     iter-shift, iter-add     taken on once more at either end; r and then k times
 --     round-later         what d times lead back to, they lead back to from there on
 --     Recur               for every r, what passes the test c comes after r or more times
@@ -12,11 +11,8 @@ use native.Mathlib.Nat.{zero-add, suc-add, add-comm}
 use native.Mathlib.Omega.{arith}
 use lib.Dec.{ltb}
 use borrow.Author.Tests.{ltb-true, ltb-false}
+use Rattle.rules.specs.Basics.{iter}
 use Rattle.rules.proofs.Bools.{by}
-
-abbrev pub iter : (ℕ → ℕ) → ℕ → ℕ → ℕ
-iter f zero p = p
-iter f (suc r) p = f (iter f r p)
 
 module _ (f : ℕ → ℕ) where
   pub iter-shift : (r p : ℕ) → iter f r (f p) ≡ iter f (suc r) p

@@ -1,8 +1,10 @@
 -- What follows where nothing is refused.
 --     first-none, first-zero, when-none     a chain of refusals that gives none
+--     in-range         a size from 1 to the most, and what is tested behind it
 --     taken-sizes      what holds of sizes that are taken
 --     taken-table      what holds of a table that is taken
 --     taken-word       what holds of a word that is taken
+--     taken-parity     what holds of a parity table that is taken
 --     parity-none      a parity table with nothing to refuse
 use mathlib.Core.Path.{_≡_, refl}
 use mathlib.Core.Bool.{Bool, true, false, _||_}
@@ -36,6 +38,13 @@ first-zero zero r h = (refl, h)
 first-zero (suc x) r h = absurd (omega arith)
 
 -- ---- sizes within their ranges
+pub in-range : (most n : ℕ) (later : Bool) → eqb n 0 || (ltb most n || later) ≡ false → (1 ≤ n) × (n ≤ most) × (later ≡ false)
+in-range most n later h =
+    let a = or-none (eqb n 0) (ltb most n || later) h in
+    let b = or-none (ltb most n) later (a .1) in
+    let n0 = eqb-false n 0 (a .0) in
+    (omega arith, ltb-false most n (b .0), b .1)
+
 pub record TakenSizes (n m k : ℕ) : Type 0 where
   pub some-states : 1 ≤ n
   pub most-states : n ≤ maxStates
@@ -46,21 +55,15 @@ pub record TakenSizes (n m k : ℕ) : Type 0 where
 
 pub taken-sizes : (n m k : ℕ) → sizesFault n m k ≡ false → TakenSizes n m k
 taken-sizes n m k h =
-    let a = or-none (eqb n 0) (ltb maxStates n || (eqb m 0 || (ltb maxLetters m || ltb maxPairs k))) h in
-    let b = or-none (ltb maxStates n) (eqb m 0 || (ltb maxLetters m || ltb maxPairs k)) (a .1) in
-    let c = or-none (eqb m 0) (ltb maxLetters m || ltb maxPairs k) (b .1) in
-    let d = or-none (ltb maxLetters m) (ltb maxPairs k) (c .1) in
-    let n0 = eqb-false n 0 (a .0) in
-    let m0 = eqb-false m 0 (c .0) in
-    let states = ltb-false maxStates n (b .0) in
-    let letters = ltb-false maxLetters m (d .0) in
+    let a = in-range maxStates n (eqb m 0 || (ltb maxLetters m || ltb maxPairs k)) h in
+    let b = in-range maxLetters m (ltb maxPairs k) (a .2) in
     record {
-      some-states = omega arith;
-      most-states = states;
-      some-letters = omega arith;
-      most-letters = letters;
-      most-pairs = ltb-false maxPairs k (d .1);
-      most-cells = mul-le-mul states letters;
+      some-states = a .0;
+      most-states = a .1;
+      some-letters = b .0;
+      most-letters = b .1;
+      most-pairs = ltb-false maxPairs k (b .2);
+      most-cells = mul-le-mul (a .1) (b .1);
     }
 
 -- ---- a table that is taken
@@ -102,6 +105,8 @@ taken-table bs h =
 -- ---- a word that is taken
 pub record TakenWord (m : ℕ) (lead l : List ℕ) : Type 0 where
   pub some-loop : 0 < length l
+  pub most-lead : length lead ≤ maxPiece
+  pub most-loop : length l ≤ maxPiece
   pub lead-letters : strayLetter m lead ≡ false
   pub loop-letters : strayLetter m l ≡ false
 
@@ -109,11 +114,45 @@ pub taken-word : (m : ℕ) (lead l : List ℕ) → wordFault m lead l ≡ 0 → 
 taken-word m lead l h =
     let a = first-none (eqb (length l) 0 || (ltb maxPiece (length lead) || ltb maxPiece (length l))) 9 (when (strayLetter m lead || strayLetter m l) Refusal.letter) h in
     let b = or-none (eqb (length l) 0) (ltb maxPiece (length lead) || ltb maxPiece (length l)) (a .0) in
+    let d = or-none (ltb maxPiece (length lead)) (ltb maxPiece (length l)) (b .1) in
     let c = or-none (strayLetter m lead) (strayLetter m l) (when-none (strayLetter m lead || strayLetter m l) 8 (a .1)) in
     let l0 = eqb-false (length l) 0 (b .0) in
-    record { some-loop = omega arith; lead-letters = c .0; loop-letters = c .1 }
+    record {
+      some-loop = omega arith;
+      most-lead = ltb-false maxPiece (length lead) (d .0);
+      most-loop = ltb-false maxPiece (length l) (d .1);
+      lead-letters = c .0;
+      loop-letters = c .1;
+    }
 
 -- ---- a parity table that is taken
+pub record TakenParity (n m : ℕ) (ts ps : List ℕ) : Type 0 where
+  pub some-rows : 1 ≤ n
+  pub most-rows : n ≤ maxRows
+  pub some-letters : 1 ≤ m
+  pub most-letters : m ≤ maxLetters
+  pub target-cells : n * m ≤ length ts
+  pub priority-cells : n * m ≤ length ps
+  pub most-cells : n * m ≤ maxRows * maxLetters
+
+pub taken-parity : (n m : ℕ) (ts ps : List ℕ) → parityFault n m ts ps ≡ 0 → TakenParity n m ts ps
+taken-parity n m ts ps h =
+    let targets = targetFault n noRow (take (n * m) ts) in
+    let arrays = ltb (length ts) (n * m) || (ltb (length ps) (n * m) || targets) in
+    let a = in-range maxRows n (eqb m 0 || (ltb maxLetters m || arrays)) (when-none _ 10 h) in
+    let b = in-range maxLetters m arrays (a .2) in
+    let c = or-none (ltb (length ts) (n * m)) (ltb (length ps) (n * m) || targets) (b .2) in
+    let d = or-none (ltb (length ps) (n * m)) targets (c .1) in
+    record {
+      some-rows = a .0;
+      most-rows = a .1;
+      some-letters = b .0;
+      most-letters = b .1;
+      target-cells = ltb-false (length ts) (n * m) (c .0);
+      priority-cells = ltb-false (length ps) (n * m) (d .0);
+      most-cells = mul-le-mul (a .1) (b .1);
+    }
+
 pub parity-none : (n m : ℕ) (ts ps : List ℕ) → 1 ≤ n → n ≤ maxRows → 1 ≤ m → m ≤ maxLetters → n * m ≤ length ts → n * m ≤ length ps
     → targetFault n noRow (take (n * m) ts) ≡ false → parityFault n m ts ps ≡ 0
 parity-none n m ts ps n1 nm m1 mm lt lp h =

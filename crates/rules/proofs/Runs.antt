@@ -1,10 +1,12 @@
 -- What a run over a looped word means: when it stops, and which transitions recur; for any transition system.
 --     path-split, path-end, path-below     a path taken apart; where it ends
 --     goes-path, goes-stop, goes-view      reading a word either follows a path or meets a missing transition
+--     stop-after                           a path, and behind it a missing transition
 --     stops-view                           the settled run stopped after i letters exactly if the word's run meets a missing
 --                                          transition after i letters
 --     Steady                               a run that never stops: it reads the loop again and again, and some repetition begins
 --                                          where an earlier one began
+--     steady-from                          two repetitions that begin at the same state: it never stops
 --     steady                               not stopped after as many repetitions as there are states: never
 --     endless-window                       from a repetition that begins where it begins again d later, d repetitions or more take
 --                                          exactly the recurring transitions
@@ -22,12 +24,12 @@ use lib.ListN.{length}
 use borrow.Author.Tests.{eqb-true, eq-eqb, leb-true, leb-false, le-leb, lt-leb, ltb-true, ltb-false}
 use Rattle.rules.specs.Basics.{any, SameSet, repeated}
 use Rattle.rules.specs.Systems.{System, Path, here, step}
-use Rattle.rules.specs.Runs.{strayLetter, At, standing, reads, goesBy, Taken, taken, isTaken, passFrom, settled, recurring, Stop, MeetsMissing, TakenIn, Recurs}
+use Rattle.rules.specs.Runs.{strayLetter, At, standing, reads, goesBy, Taken, taken, isTaken, passFrom, follow, turn, ReadsOn, settled, recurring, Stop, MeetsMissing, TakenIn, Recurs}
 use Rattle.rules.proofs.Bools.{by, clash, or-cases, or-left, or-right, or-none, and-parts, bool-ext}
 use Rattle.rules.proofs.Sets.{any-append}
 use Rattle.rules.proofs.Reach.{path-append}
 use Rattle.rules.proofs.Pigeonhole.{pigeonhole}
-use Rattle.rules.proofs.Orbits.{iter, iter-shift, iter-add, round-later, comes-from, Recur, window}
+use Rattle.rules.proofs.Orbits.{iter-shift, iter-add, round-later, comes-from, Recur, window}
 
 -- ---- repetitions
 pub repeated-add : {A : Type 0} (n k : ℕ) (l : List A) → repeated (n + k) l ≡ repeated n l ++ repeated k l
@@ -44,12 +46,7 @@ repeated-letters m (suc n) l h = any-append (λ a. leb m a) l (repeated n l) ∙
 
 module _ (s : System) where
   -- ---- paths
-  -- where the letters lead, as far as they do
-  abbrev pub follow : List ℕ → ℕ → ℕ
-  follow [] p = p
-  follow (a ∷ w) p = follow w (s .go p a)
-
-  pub path-end : {p : ℕ} {w : List ℕ} {q : ℕ} → Path s p w q → follow w p ≡ q
+  pub path-end : {p : ℕ} {w : List ℕ} {q : ℕ} → Path s p w q → follow s w p ≡ q
   path-end here = refl
   path-end (step l t a) = path-end a
 
@@ -85,15 +82,16 @@ module _ (s : System) where
       halted =
           rw (le-leb (s .states) (s .go (x .place) (x .next)) (x .absent)) (goes-stopped (x .later) (x .place) (length (x .before) + n))
 
-  stop-behind : {p a : ℕ} {w : List ℕ} → a < s .letters → s .go p a < s .states → Stop s (s .go p a) w → Stop s p (a ∷ w)
-  stop-behind {a = a} l t x =
+  -- a path, and behind it a missing transition
+  unfoldable pub stop-after : (u : List ℕ) {p q : ℕ} {w : List ℕ} → Path s p u q → Stop s q w → Stop s p (u ++ w)
+  stop-after u a x =
       record {
-        before = a ∷ x .before;
+        before = u ++ x .before;
         next = x .next;
         later = x .later;
         place = x .place;
-        piece = ap (λ (z : List ℕ). a ∷ z) (x .piece);
-        path = step l t (x .path);
+        piece = append-assoc u (x .before) (x .next ∷ x .later) ∙ ap (λ (z : List ℕ). u ++ z) (x .piece);
+        path = path-append s a (x .path);
         letter = x .letter;
         absent = x .absent;
       }
@@ -107,7 +105,7 @@ module _ (s : System) where
       (leb (s .states) (s .go p a))
       (λ e. inr (record { before = []; next = a; later = w; place = p; piece = refl; path = here; letter = l; absent = leb-true (s .states) (s .go p a) e }))
       (λ e. let t = leb-false (s .states) (s .go p a) e in
-      ⊎-elim (λ g. inl (g .0, step l t (g .1))) (λ x. inr (stop-behind l t x)) (goes-view w (s .go p a) (r .1)))
+      ⊎-elim (λ g. inl (g .0, step l t (g .1))) (λ x. inr (stop-after (a ∷ []) (step l t here) x)) (goes-view w (s .go p a) (r .1)))
 
   -- a word that is read to its end meets no missing transition
   pub path-or-stop : {p : ℕ} {w : List ℕ} {q : ℕ} → Path s p w q → Stop s p w → ⊥
@@ -120,113 +118,117 @@ module _ (s : System) where
       goes-append w v (standing false p 0) ∙ ap (λ (z : At). goesBy s z v) (goes-stop 0 x)
       ∙ goes-stopped v (x .place) (length (x .before) + 0) ∙ sym (goes-stop 0 x)
 
-  pub pass-append : (u v : List ℕ) (p : ℕ) → passFrom s p (u ++ v) ≡ passFrom s p u ++ passFrom s (follow u p) v
+  pub pass-append : (u v : List ℕ) (p : ℕ) → passFrom s p (u ++ v) ≡ passFrom s p u ++ passFrom s (follow s u p) v
   pass-append [] v p = refl
   pass-append (a ∷ u) v p = ap (λ (z : List Taken). taken p a ∷ z) (pass-append u v (s .go p a))
 
   -- ---- a run that reads the loop again and again
   module _ (l : List ℕ) where
-    -- where the r-th repetition from p on ends
-    abbrev pub turn : ℕ → ℕ → ℕ
-    turn r p = iter (follow l) r p
-
     pub record Steady (p : ℕ) : Type 0 where
-      pub reads-on : (r : ℕ) → Path s (turn r p) l (turn (suc r) p)
+      pub reads-on : (r : ℕ) → Path s (turn s l r p) l (turn s l (suc r) p)
       pub begin : ℕ
       pub period : ℕ
       pub some : 0 < period
       pub early : begin + period ≤ s .states
-      pub round : turn period (turn begin p) ≡ turn begin p
+      pub round : turn s l period (turn s l begin p) ≡ turn s l begin p
 
     -- the repetitions of a path
-    pub path-turns : (n : ℕ) {p q : ℕ} → Path s p (repeated n l) q → (r : ℕ) → r < n → Path s (turn r p) l (turn (suc r) p)
+    pub path-turns : (n : ℕ) {p q : ℕ} → Path s p (repeated n l) q → ReadsOn s l p n
     path-turns zero a r h = absurd (omega arith)
     path-turns (suc n) {p} a zero h = let b = path-split l a in rw (path-end (b .1)) (b .1)
     path-turns (suc n) {p} a (suc r) h =
         let b = path-split l a in
-        let c = path-turns n (rw (← path-end (b .1)) at (b .2)) r (omega arith) in rw (iter-shift (follow l) r p) at c
+        let c = path-turns n (rw (← path-end (b .1)) at (b .2)) r (omega arith) in rw (iter-shift (follow s l) r p) at c
 
-    turns-below : {p q : ℕ} → p < s .states → Path s p (repeated (s .states) l) q → (r : ℕ) → r ≤ s .states → turn r p < s .states
-    turns-below b a zero h = b
-    turns-below b a (suc r) h = path-below (turns-below b a r (omega arith)) (path-turns (s .states) a r h)
+    -- repetitions that are read one after the other
+    pub turns-path : (n : ℕ) {p : ℕ} → ReadsOn s l p n → Path s p (repeated n l) (turn s l n p)
+    turns-path zero a = here
+    turns-path (suc n) a = rw (repeated-more n l) (path-append s (turns-path n (λ r h. a r (omega arith))) (a n (omega arith)))
+
+    pub turns-below : (n p : ℕ) → p < s .states → ReadsOn s l p n → (r : ℕ) → r ≤ n → turn s l r p < s .states
+    turns-below n p b a zero h = b
+    turns-below n p b a (suc r) h = path-below (turns-below n p b a r (omega arith)) (a r h)
 
     -- two repetitions that begin at the same state
-    steady-from : {p q : ℕ} → Path s p (repeated (s .states) l) q → (i j : ℕ) → i < j → j ≤ s .states → turn i p ≡ turn j p → Steady p
-    steady-from {p} a i j below within same =
+    pub round-back : (p i j : ℕ) → i < j → turn s l i p ≡ turn s l j p → turn s l (j - i) (turn s l i p) ≡ turn s l i p
+    round-back p i j below same =
+        let e : j - i + i ≡ j = omega arith in sym (iter-add (follow s l) (j - i) i p) ∙ ap (λ (z : ℕ). turn s l z p) e ∙ sym same
+
+    pub steady-from : {p : ℕ} (i j : ℕ) → ReadsOn s l p j → i < j → j ≤ s .states → turn s l i p ≡ turn s l j p → Steady p
+    steady-from {p} i j reads below within same =
         record {
-          reads-on = λ r. by (ltb r (s .states)) (λ e. path-turns (s .states) a r (ltb-true r (s .states) e)) (λ e. late r (ltb-false r (s .states) e));
+          reads-on = λ r. by (ltb r j) (λ e. reads r (ltb-true r j e)) (λ e. late r (ltb-false r j e));
           begin = i;
           period = j - i;
           some = omega arith;
           early = omega arith;
-          round = round;
+          round = round-back p i j below same;
         }
       where
-        round : turn (j - i) (turn i p) ≡ turn i p
-        round = let e : j - i + i ≡ j = omega arith in sym (iter-add (follow l) (j - i) i p) ∙ ap (λ (z : ℕ). turn z p) e ∙ sym same
-
-        late : (r : ℕ) → s .states ≤ r → Path s (turn r p) l (turn (suc r) p)
+        late : (r : ℕ) → j ≤ r → Path s (turn s l r p) l (turn s l (suc r) p)
         late r h =
-            let k = comes-from (follow l) (turn i p) (j - i) (omega arith) round (r - i) in
+            let k = comes-from (follow s l) (turn s l i p) (j - i) (omega arith) (round-back p i j below same) (r - i) in
             let e : r - i + i ≡ r = omega arith in
-            let earlier : turn (k .0 + i) p ≡ turn r p = iter-add (follow l) (k .0) i p ∙ sym (k .2) ∙ sym (iter-add (follow l) (r - i) i p) ∙ ap (λ (z : ℕ). turn z p) e in
-            subst (λ (z : ℕ). Path s z l (follow l z)) earlier (path-turns (s .states) a (k .0 + i) (omega (arith, k .1)))
+            let earlier : turn s l (k .0 + i) p ≡ turn s l r p = iter-add (follow s l) (k .0) i p ∙ sym (k .2) ∙ sym (iter-add (follow s l) (r - i) i p) ∙ ap (λ (z : ℕ). turn s l z p) e in
+            subst (λ (z : ℕ). Path s z l (follow s l z)) earlier (reads (k .0 + i) (omega (arith, k .1)))
 
     -- not stopped after as many repetitions as there are states: never
     pub steady : {p q : ℕ} → p < s .states → Path s p (repeated (s .states) l) q → Steady p
-    steady {p} b a = let h = pigeonhole (s .states) (λ r. turn r p) (turns-below b a) in steady-from a (h .0) (h .1) (h .2) (h .3) (h .4)
+    steady {p} b a =
+        let reads = path-turns (s .states) a in
+        let h = pigeonhole (s .states) (λ r. turn s l r p) (turns-below (s .states) p b reads) in
+        steady-from (h .0) (h .1) (λ r e. reads r (omega (arith, h .3))) (h .2) (h .3) (h .4)
 
-    pub steady-path : {p : ℕ} → Steady p → (r : ℕ) → Path s p (repeated r l) (turn r p)
-    steady-path st zero = here
-    steady-path st (suc r) = rw (repeated-more r l) (path-append s (steady-path st r) (st .reads-on r))
+    pub steady-path : {p : ℕ} → Steady p → (r : ℕ) → Path s p (repeated r l) (turn s l r p)
+    steady-path st r = turns-path r (λ i h. st .reads-on i)
 
-    pub steady-later : {p : ℕ} → Steady p → (i r : ℕ) → Path s (turn i p) (repeated r l) (turn r (turn i p))
+    pub steady-later : {p : ℕ} → Steady p → (i r : ℕ) → Path s (turn s l i p) (repeated r l) (turn s l r (turn s l i p))
     steady-later st i zero = here
     steady-later {p} st i (suc r) =
-        rw (repeated-more r l) (path-append s (steady-later st i r) (rw (iter-add (follow l) r i p) at (st .reads-on (r + i))))
+        rw (repeated-more r l) (path-append s (steady-later st i r) (rw (iter-add (follow s l) r i p) at (st .reads-on (r + i))))
 
     module _ (b : Taken → Bool) where
       -- the repetition that begins at p takes a transition that passes b
       abbrev pub takes : ℕ → Bool
       takes p = any b (passFrom s p l)
 
-      takes-more : (w p : ℕ) → any b (passFrom s p (repeated (suc w) l)) ≡ takes p || any b (passFrom s (follow l p) (repeated w l))
-      takes-more w p = ap (any b) (pass-append l (repeated w l) p) ∙ any-append b (passFrom s p l) (passFrom s (follow l p) (repeated w l))
+      takes-more : (w p : ℕ) → any b (passFrom s p (repeated (suc w) l)) ≡ takes p || any b (passFrom s (follow s l p) (repeated w l))
+      takes-more w p = ap (any b) (pass-append l (repeated w l) p) ∙ any-append b (passFrom s p l) (passFrom s (follow s l p) (repeated w l))
 
-      turns-find : (w p : ℕ) → any b (passFrom s p (repeated w l)) ≡ true → (k : ℕ) × (k < w) × (takes (turn k p) ≡ true)
+      turns-find : (w p : ℕ) → any b (passFrom s p (repeated w l)) ≡ true → (k : ℕ) × (k < w) × (takes (turn s l k p) ≡ true)
       turns-find zero p h = absurd (false≢true h)
       turns-find (suc w) p h =
-          or-cases (takes p) (any b (passFrom s (follow l p) (repeated w l))) (sym (takes-more w p) ∙ h) (λ e. (0, omega arith, e))
-          (λ e. let r = turns-find w (follow l p) e in (suc (r .0), omega arith, rw (← iter-shift (follow l) (r .0) p) (r .2)))
+          or-cases (takes p) (any b (passFrom s (follow s l p) (repeated w l))) (sym (takes-more w p) ∙ h) (λ e. (0, omega arith, e))
+          (λ e. let r = turns-find w (follow s l p) e in (suc (r .0), omega arith, rw (← iter-shift (follow s l) (r .0) p) (r .2)))
 
-      turns-intro : (w p k : ℕ) → k < w → takes (turn k p) ≡ true → any b (passFrom s p (repeated w l)) ≡ true
+      turns-intro : (w p k : ℕ) → k < w → takes (turn s l k p) ≡ true → any b (passFrom s p (repeated w l)) ≡ true
       turns-intro zero p k h t = absurd (omega arith)
-      turns-intro (suc w) p zero h t = takes-more w p ∙ or-left (takes p) (any b (passFrom s (follow l p) (repeated w l))) t
+      turns-intro (suc w) p zero h t = takes-more w p ∙ or-left (takes p) (any b (passFrom s (follow s l p) (repeated w l))) t
       turns-intro (suc w) p (suc k) h t =
           takes-more w p
-          ∙ or-right (takes p) (any b (passFrom s (follow l p) (repeated w l))) (turns-intro w (follow l p) k (omega arith) (rw (iter-shift (follow l) k p) t))
+          ∙ or-right (takes p) (any b (passFrom s (follow s l p) (repeated w l))) (turns-intro w (follow s l p) k (omega arith) (rw (iter-shift (follow s l) k p) t))
 
       -- from a repetition that begins where it begins again d later, d repetitions or more take exactly what recurs
-      turns-window : (p i d w : ℕ) → 0 < d → d ≤ w → turn d (turn i p) ≡ turn i p
-          → Recur (follow l) takes p ↔ (any b (passFrom s (turn i p) (repeated w l)) ≡ true)
+      turns-window : (p i d w : ℕ) → 0 < d → d ≤ w → turn s l d (turn s l i p) ≡ turn s l i p
+          → Recur (follow s l) takes p ↔ (any b (passFrom s (turn s l i p) (repeated w l)) ≡ true)
       turns-window p i d w some wide round =
-          let v = window (follow l) takes p i d w some wide round in
-          (λ h. let r = v .0 h in turns-intro w (turn i p) (r .0) (r .1) (r .2), λ h. v .1 (turns-find w (turn i p) h))
+          let v = window (follow s l) takes p i d w some wide round in
+          (λ h. let r = v .0 h in turns-intro w (turn s l i p) (r .0) (r .1) (r .2), λ h. v .1 (turns-find w (turn s l i p) h))
 
       -- the computed recurring transitions
       pub takes-recurring : {p : ℕ} (st : Steady p)
-          → Recur (follow l) takes p ↔ (any b (passFrom s (turn (s .states) p) (repeated (s .states) l)) ≡ true)
+          → Recur (follow s l) takes p ↔ (any b (passFrom s (turn s l (s .states) p) (repeated (s .states) l)) ≡ true)
       takes-recurring {p} st =
           let e = st .early in
           turns-window p (s .states) (st .period) (s .states) (st .some) (omega arith)
-          (round-later (follow l) (st .period) (st .begin) (s .states) p (omega arith) (st .round))
+          (round-later (follow s l) (st .period) (st .begin) (s .states) p (omega arith) (st .round))
 
-    recurring-window : {p : ℕ} (st : Steady p) (i d w : ℕ) → 0 < d → d ≤ w → turn d (turn i p) ≡ turn i p
-        → SameSet (passFrom s (turn (s .states) p) (repeated (s .states) l)) (passFrom s (turn i p) (repeated w l))
+    recurring-window : {p : ℕ} (st : Steady p) (i d w : ℕ) → 0 < d → d ≤ w → turn s l d (turn s l i p) ≡ turn s l i p
+        → SameSet (passFrom s (turn s l (s .states) p) (repeated (s .states) l)) (passFrom s (turn s l i p) (repeated w l))
     recurring-window {p} st i d w some wide round b =
         let r = takes-recurring b st in
         let v = turns-window b p i d w some wide round in
-        bool-ext (any b (passFrom s (turn (s .states) p) (repeated (s .states) l))) (any b (passFrom s (turn i p) (repeated w l))) (λ h. v .0 (r .1 h)) (λ h. r .0 (v .1 h))
+        bool-ext (any b (passFrom s (turn s l (s .states) p) (repeated (s .states) l))) (any b (passFrom s (turn s l i p) (repeated w l))) (λ h. v .0 (r .1 h)) (λ h. r .0 (v .1 h))
 
   -- ---- the run over a looped word
   -- a run that never stops: where the lead-in ends, and the loop again and again from there
@@ -239,11 +241,11 @@ module _ (s : System) where
     word-more : (n r : ℕ) → (lead ++ repeated n l) ++ repeated r l ≡ lead ++ repeated (n + r) l
     word-more n r = append-assoc lead (repeated n l) (repeated r l) ∙ ap (λ (z : List ℕ). lead ++ z) (sym (repeated-add n r l))
 
-    pub endless-path : (e : Endless q lead l) (r : ℕ) → Path s q (lead ++ repeated r l) (turn l r (e .entry))
+    pub endless-path : (e : Endless q lead l) (r : ℕ) → Path s q (lead ++ repeated r l) (turn s l r (e .entry))
     endless-path e r = path-append s (e .path) (steady-path l (e .on) r)
 
     pub endless-settled : (e : Endless q lead l)
-        → settled s q lead l ≡ standing false (turn l (s .states) (e .entry)) (length (lead ++ repeated (s .states) l) + 0)
+        → settled s q lead l ≡ standing false (turn s l (s .states) (e .entry)) (length (lead ++ repeated (s .states) l) + 0)
     endless-settled e = goes-path 0 (endless-path e (s .states))
 
     pub endless-meets-none : Endless q lead l → (i : ℕ) → MeetsMissing s q lead l i → ⊥
@@ -312,14 +314,14 @@ module _ (s : System) where
   pass-intro : {p : ℕ} {w : List ℕ} (x : Taken) → OnPath p w x → any (isTaken x) (passFrom s p w) ≡ true
   pass-intro {p} x y =
       ap (λ (z : List ℕ). any (isTaken x) (passFrom s p z)) (sym (y .piece)) ∙ ap (any (isTaken x)) (pass-append (y .before) (x .by ∷ y .later) p)
-      ∙ any-append (isTaken x) (passFrom s p (y .before)) (passFrom s (follow (y .before) p) (x .by ∷ y .later))
-      ∙ or-right (any (isTaken x) (passFrom s p (y .before))) (any (isTaken x) (passFrom s (follow (y .before) p) (x .by ∷ y .later))) (rw (path-end (y .path), eq-eqb (x .from) (x .from) refl, eq-eqb (x .by) (x .by) refl))
+      ∙ any-append (isTaken x) (passFrom s p (y .before)) (passFrom s (follow s (y .before) p) (x .by ∷ y .later))
+      ∙ or-right (any (isTaken x) (passFrom s p (y .before))) (any (isTaken x) (passFrom s (follow s (y .before) p) (x .by ∷ y .later))) (rw (path-end (y .path), eq-eqb (x .from) (x .from) refl, eq-eqb (x .by) (x .by) refl))
 
   module _ (q : ℕ) (lead l : List ℕ) (e : Endless q lead l) where
-    taken-view : (r : ℕ) (x : Taken) → TakenIn s q lead l r x ↔ (takes l (isTaken x) (turn l r (e .entry)) ≡ true)
+    taken-view : (r : ℕ) (x : Taken) → TakenIn s q lead l r x ↔ (takes l (isTaken x) (turn s l r (e .entry)) ≡ true)
     taken-view r x = (shown, λ h. met (pass-find x (e .on .reads-on r) h))
       where
-        met : OnPath (turn l r (e .entry)) l x → TakenIn s q lead l r x
+        met : OnPath (turn s l r (e .entry)) l x → TakenIn s q lead l r x
         met y =
             record {
               before = y .before;
@@ -329,15 +331,15 @@ module _ (s : System) where
               present = y .present;
             }
 
-        shown : TakenIn s q lead l r x → takes l (isTaken x) (turn l r (e .entry)) ≡ true
+        shown : TakenIn s q lead l r x → takes l (isTaken x) (turn s l r (e .entry)) ≡ true
         shown y =
             let a = path-split lead (y .path) in
             let b = path-split (repeated r l) (a .2) in
             let i : a .0 ≡ e .entry = sym (path-end (a .1)) ∙ path-end (e .path) in
-            let j : b .0 ≡ turn l r (e .entry) = sym (path-end (b .1)) ∙ ap (follow (repeated r l)) i ∙ path-end (steady-path l (e .on) r) in
+            let j : b .0 ≡ turn s l r (e .entry) = sym (path-end (b .1)) ∙ ap (follow s (repeated r l)) i ∙ path-end (steady-path l (e .on) r) in
             pass-intro x (record { before = y .before; later = y .later; piece = y .piece; path = rw j at (b .2); present = y .present })
 
-    endless-recurring : recurring s q lead l ≡ passFrom s (turn l (s .states) (e .entry)) (repeated (s .states) l)
+    endless-recurring : recurring s q lead l ≡ passFrom s (turn s l (s .states) (e .entry)) (repeated (s .states) l)
     endless-recurring = ap (λ (z : At). passFrom s (z .place) (repeated (s .states) l)) (endless-settled q lead l e)
 
     endless-recurs : (x : Taken) → (any (isTaken x) (recurring s q lead l) ≡ true) ↔ Recurs s q lead l x
@@ -347,8 +349,8 @@ module _ (s : System) where
           λ h. ap (any (isTaken x)) endless-recurring ∙ v .0 (λ r. let k = h r in (k .0, k .1, taken-view (k .0) x .0 (k .2))),
         )
 
-    pub endless-window : (i d w : ℕ) → 0 < d → d ≤ w → turn l d (turn l i (e .entry)) ≡ turn l i (e .entry)
-        → SameSet (recurring s q lead l) (passFrom s (turn l i (e .entry)) (repeated w l))
+    pub endless-window : (i d w : ℕ) → 0 < d → d ≤ w → turn s l d (turn s l i (e .entry)) ≡ turn s l i (e .entry)
+        → SameSet (recurring s q lead l) (passFrom s (turn s l i (e .entry)) (repeated w l))
     endless-window i d w some wide round b = ap (any b) endless-recurring ∙ recurring-window l (e .on) i d w some wide round b
 
   pub recurs-view : (q : ℕ) (lead l : List ℕ) → q < s .states → strayLetter (s .letters) lead ≡ false → strayLetter (s .letters) l ≡ false

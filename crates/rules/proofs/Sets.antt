@@ -1,18 +1,23 @@
 -- Lists as sets of what passes a test, numbers below a bound, the largest of a set.
 --     any-append, any-map          tests over a joined and a mapped list
+--     any-turn, any-end            a test over a list that is gone through from the front
 --     any-find, any-intro, any-none     a test over a list of numbers, by its elements
 --     below-find, below-intro, below-same     a test over the numbers below a bound
 --     apart                        a test that tells two numbers apart
 --     least-passes, least-least    the first number that passes a test
 --     largest-over, largest-under, largest-same     the largest of a set, from both sides; it depends on the set alone
+--     largest-is                   the number that is above n exactly if some member of the set is
 use mathlib.Core.Path.{_≡_, refl, sym, ap, _∙_}
-use mathlib.Core.Bool.{Bool, true, false, _||_, or-assoc, false≢true}
+use mathlib.Core.Bool.{Bool, true, false, _||_, or-assoc, or-false, false≢true}
 use mathlib.Core.List.{List, [], _∷_, _++_, map}
 use Prim.Native.Nat.{ℕ, zero, suc, _+_, _≤_, _<_}
 use native.Mathlib.Nat.{le-antisymm, lt-irrefl, not-suc-le-zero}
+use native.Mathlib.Numerals.{add-one}
 use native.Mathlib.Omega.{arith}
 use lib.Dec.{eqb, ltb}
-use borrow.Author.Tests.{eqb-true, eqb-false, eq-eqb, ltb-true, ltb-false}
+use lib.ListN.{length, getD, drop, drop-of-length-le}
+use lib.Seq.{drop-cons}
+use borrow.Author.Tests.{eqb-true, eqb-false, eq-eqb, ltb-true, ltb-false, lt-ltb, le-ltb}
 use Rattle.rules.specs.Basics.{any, SameSet, anyBelow, isIn, least, largest}
 use Rattle.rules.proofs.Bools.{by, clash, or-cases, or-left, or-right, or-none}
 
@@ -23,6 +28,14 @@ any-append b (x ∷ xs) ys = rw (any-append b xs ys) (sym (or-assoc (b x) (any b
 pub any-map : {A B : Type 0} (b : B → Bool) (f : A → B) (xs : List A) → any b (map f xs) ≡ any (λ x. b (f x)) xs
 any-map b f [] = refl
 any-map b f (x ∷ xs) = ap (λ (c : Bool). b (f x) || c) (any-map b f xs)
+
+-- every element of a list: what was found so far, or is still to be found
+module _ (b : ℕ → Bool) (found : Bool) (xs : List ℕ) (c : ℕ) where
+  pub any-turn : c < length xs → (found || b (getD xs c 0)) || any b (drop (c + 1) xs) ≡ found || any b (drop c xs)
+  any-turn l = rw (add-one c, drop-cons xs c 0 l) (or-assoc found _ _)
+
+  pub any-end : length xs ≤ c → found || any b (drop c xs) ≡ any b xs → found ≡ any b xs
+  any-end l h = sym (or-false found) ∙ (rw (drop-of-length-le xs l) at h)
 
 -- lists of numbers, by their elements
 pub any-find : (b : ℕ → Bool) (xs : List ℕ) → any b xs ≡ true → (x : ℕ) × (isIn x xs ≡ true) × (b x ≡ true)
@@ -105,3 +118,10 @@ largest-same {A} g xs ys e =
     none : (zs : List A) → any (λ x. ltb (largest g zs) (g x)) zs ≡ false
     none zs =
         by (any (λ x. ltb (largest g zs) (g x)) zs) (λ h. absurd (lt-irrefl (largest g zs) (largest-over g zs (largest g zs) h))) (λ h. h)
+
+pub largest-is : {A : Type 0} (g : A → ℕ) (xs : List A) (v : ℕ) → ((n : ℕ) → ltb n v ≡ any (λ x. ltb n (g x)) xs) → largest g xs ≡ v
+largest-is g xs v h = le-antisymm (largest-under g xs v (sym (h v) ∙ le-ltb v v (omega arith))) (over v h)
+  where
+    over : (u : ℕ) → ((n : ℕ) → ltb n u ≡ any (λ x. ltb n (g x)) xs) → u ≤ largest g xs
+    over zero k = omega arith
+    over (suc u) k = largest-over g xs u (sym (k u) ∙ lt-ltb u (suc u) (omega arith))

@@ -12,6 +12,7 @@
 --     tabulate f i g     g i, g (i + 1) .., f of them
 --     joined g xs        the lists g x for each x of xs, one after the other
 --     repeated n xs      xs, n times over
+--     iter f n p         p, taken on n times by f
 --     largest g xs       the largest g x, 0 if there is none
 --     isEven n           n is even
 --     bit i v            bit i of v is set, counted from 0
@@ -72,6 +73,10 @@ joined g (x ∷ xs) = g x ++ joined g xs
 abbrev pub repeated : {A : Type 0} → ℕ → List A → List A
 repeated zero xs = []
 repeated (suc n) xs = xs ++ repeated n xs
+
+abbrev pub iter : (ℕ → ℕ) → ℕ → ℕ → ℕ
+iter f zero p = p
+iter f (suc n) p = f (iter f n p)
 
 abbrev pub largest : {A : Type 0} → (A → ℕ) → List A → ℕ
 largest g [] = 0

@@ -10,6 +10,9 @@
 --     taken p a                  the transition of state p by the letter a
 --     isTaken x y                x and y are the same transition
 --     passFrom s p w             the transitions taken in reading w from p
+--     follow s w p               where the letters of w lead from p
+--     turn s l r p               where the repetition after the r-th of the loop l begins, the first of them at p
+--     ReadsOn s l p n            n repetitions of the loop l are read one after the other, the first of them from p
 --     settled s q lead l         the run from q after the lead-in and as many repetitions of the loop as there are states
 --     recurring s q lead l       the transitions taken in as many repetitions more: of that many repetitions some begins at
 --                                a state for the second time, so these are just the transitions that recur (`recurs-view`)
@@ -27,7 +30,7 @@ use mathlib.Core.List.{List, [], _∷_, _++_, map}
 use Prim.Native.Nat.{ℕ, suc, _≤_, _<_}
 use lib.Dec.{eqb, ltb, leb}
 use lib.ListN.{length, getD}
-use Rattle.rules.specs.Basics.{pick, any, repeated}
+use Rattle.rules.specs.Basics.{pick, any, repeated, iter}
 use Rattle.rules.specs.Systems.{System, Path}
 
 abbrev pub strayLetter : ℕ → List ℕ → Bool
@@ -61,6 +64,16 @@ isTaken x y = eqb (x .from) (y .from) && eqb (x .by) (y .by)
 abbrev pub passFrom : System → ℕ → List ℕ → List Taken
 passFrom s p [] = []
 passFrom s p (a ∷ w) = taken p a ∷ passFrom s (s .go p a) w
+
+abbrev pub follow : System → List ℕ → ℕ → ℕ
+follow s [] p = p
+follow s (a ∷ w) p = follow s w (s .go p a)
+
+abbrev pub turn : System → List ℕ → ℕ → ℕ → ℕ
+turn s l r p = iter (follow s l) r p
+
+abbrev pub ReadsOn : System → List ℕ → ℕ → ℕ → Type 0
+ReadsOn s l p n = (r : ℕ) → r < n → Path s (turn s l r p) l (turn s l (suc r) p)
 
 abbrev pub settled : System → ℕ → List ℕ → List ℕ → At
 settled s q lead l = goesBy s (standing false q 0) (lead ++ repeated (s .states) l)

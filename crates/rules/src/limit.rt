@@ -12,3 +12,5 @@ pub const NO_STATE: u8 = 255;
 pub const NO_ROW: u16 = 65535;
 
 pub const MAX_ROWS: usize = 4096;
+
+pub const MAX_PIECE: usize = 65535;

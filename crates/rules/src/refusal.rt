@@ -14,3 +14,9 @@ pub const MARKS: u8 = 6;
 pub const ARRAYS: u8 = 7;
 
 pub const FULL: u8 = 8;
+
+pub const LETTER: u8 = 9;
+
+pub const LOOP: u8 = 10;
+
+pub const PARITY: u8 = 11;

@@ -1,23 +1,27 @@
 -- Where the cells of a table that is taken stand among its bytes.
 --     cell-within, row-within       a cell's number is below the number of cells; the cells before a row
 --     targetAt, target-within, target-byte         the place of the byte that says where q goes by a, and that byte
---     prohibitedAt, prohibited-within, prohibits-byte     the place of that transition's prohibited marks, and what their bits say
---     requiredAt, required-within, counts-byte     the place of its required marks, whose bits say which pairs it makes count
---     prohibits-below, counts-below      they have no bit above pair k
-use mathlib.Core.Path.{_≡_, refl, _∙_}
+--     prohibitedAt, prohibited-within, prohibited-byte     the place of the byte of that transition's prohibited marks, and that byte
+--     requiredAt, required-within, required-byte     the same of its required marks
+--     prohibits-byte, counts-byte   what the bits of the two bytes say: which pairs the transition prohibits and makes count
+--     marks-small                   no marks have a bit above pair k, whatever the cell
+--     prohibits-below, counts-below      nor have the two bytes
+use mathlib.Core.Path.{_≡_, _∙_}
 use mathlib.Core.Bool.{false, not, _&&_}
 use mathlib.Core.List.{List, [], _∷_}
 use Prim.Native.Nat.{ℕ, zero, suc, _+_, _-_, _*_, _^_, _<_, _≤_}
-use native.Mathlib.Nat.{mul-le-mul, le-refl, le-of-lt, suc-mul, not-suc-le-zero}
+use native.Mathlib.Nat.{mul-le-mul, le-refl, le-of-lt, suc-mul}
 use native.Mathlib.Omega.{arith}
 use lib.Dec.{eqb, ltb}
-use lib.ListN.{length, getD, drop, length-take, length-drop}
+use lib.ListN.{length, getD, drop, length-take, length-drop, List·getD-eq-default}
+use lib.Pow.{pow-pos}
 use lib.Seq.{getD-take, getD-drop}
 use borrow.Author.Tests.{ltb-true, not-false}
 use Rattle.rules.specs.Basics.{bit}
 use Rattle.rules.specs.Limits.{headerSize, noState}
 use Rattle.rules.specs.Systems.{cell}
 use Rattle.rules.specs.Tables.{Table, tableOf, targetOf, prohibits, markFault, marksFault, countsBy}
+use Rattle.rules.proofs.Arrays.{getD-any}
 use Rattle.rules.proofs.Bools.{or-none, and-parts}
 use Rattle.rules.proofs.Refusals.{taken-table}
 use Rattle.tables.specs.Parts.{Taken}
@@ -28,16 +32,12 @@ cell-within n m q a l r = let h : suc q * m ≤ n * m = mul-le-mul l (le-refl m)
 pub row-within : (n m q : ℕ) → q < n → q * m ≤ n * m
 row-within n m q l = mul-le-mul (le-of-lt l) (le-refl m)
 
--- a default that is not looked at
-getD-any : (xs : List ℕ) (i d e : ℕ) → i < length xs → getD xs i d ≡ getD xs i e
-getD-any [] i d e l = absurd (not-suc-le-zero l)
-getD-any (x ∷ xs) zero d e l = refl
-getD-any (x ∷ xs) (suc i) d e l = getD-any xs i d e (omega arith)
-
--- marks that are taken have no bit above pair k
-marks-below : (k : ℕ) (ts ms : List ℕ) (c : ℕ) → marksFault k ts ms ≡ false → c < length ts
+-- marks that are taken have no bit above pair k; past the last cell there are none
+marks-below : (k : ℕ) (ts ms : List ℕ) (c : ℕ) → marksFault k ts ms ≡ false → length ms ≤ 2 * length ts
     → (getD ms (2 * c) 0 < 2 ^ k) × (getD ms (suc (2 * c)) 0 < 2 ^ k)
-marks-below k [] ms c h l = absurd (not-suc-le-zero l)
+marks-below k [] ms c h l =
+    let past : (i : ℕ) → getD ms i 0 < 2 ^ k = λ i. rw (List·getD-eq-default ms 0 {n = i} (omega arith)) (pow-pos k) in
+    (past (2 * c), past (suc (2 * c)))
 marks-below k (x ∷ ts) ms zero h l =
     let a = or-none (markFault k x (getD ms 0 0) (getD ms 1 0)) (marksFault k ts (drop 2 ms)) h in
     let b = or-none (not (ltb (getD ms 0 0) (2 ^ k) && ltb (getD ms 1 0) (2 ^ k))) (eqb x noState && not (eqb (getD ms 0 0) 0 && eqb (getD ms 1 0) 0)) (a .0) in
@@ -47,7 +47,7 @@ marks-below k (x ∷ ts) ms (suc c) h l =
     let a = or-none (markFault k x (getD ms 0 0) (getD ms 1 0)) (marksFault k ts (drop 2 ms)) h in
     let e : 2 + 2 * c ≡ 2 * suc c = omega arith in
     let f : 2 + suc (2 * c) ≡ suc (2 * suc c) = omega arith in
-    let both = marks-below k ts (drop 2 ms) c (a .1) (omega arith) in
+    let both = marks-below k ts (drop 2 ms) c (a .1) (omega (arith, length-drop 2 ms)) in
     (rw (getD-drop 2 ms (2 * c) 0, e) at (both .0), rw (getD-drop 2 ms (suc (2 * c)) 0, f) at (both .1))
 
 module _ (bs : List ℕ) where
@@ -71,6 +71,11 @@ module _ (bs : List ℕ) where
   mark-byte c at l e =
       getD-take (2 * cells) (drop (headerSize + cells) bs) c 0 l ∙ getD-drop (headerSize + cells) bs c 0 ∙ rw e
 
+  pub marks-small : Taken bs → (c : ℕ) → (getD (t .marks) (2 * c) 0 < 2 ^ t .pairs) × (getD (t .marks) (suc (2 * c)) 0 < 2 ^ t .pairs)
+  marks-small taken c =
+      let size : length (t .marks) ≤ 2 * length (t .targets) = simp (length-take, length-drop) (omega (arith, taken-table bs taken .exact)) in
+      marks-below (t .pairs) (t .targets) (t .marks) c (taken-table bs taken .marks-taken) size
+
   module _ (taken : Taken bs) (q a : ℕ) (l : q < t .states) (r : a < t .letters) where
     within : cell (t .letters) q a < cells
     within = cell-within (t .states) (t .letters) q a l r
@@ -91,10 +96,10 @@ module _ (bs : List ℕ) where
     pub required-within : requiredAt q a < length bs
     required-within = omega (arith, within, taken-table bs taken .exact)
 
-    prohibited-byte : getD (t .marks) (2 * cell (t .letters) q a) 0 ≡ getD bs (prohibitedAt q a) 0
+    pub prohibited-byte : getD (t .marks) (2 * cell (t .letters) q a) 0 ≡ getD bs (prohibitedAt q a) 0
     prohibited-byte = mark-byte (2 * cell (t .letters) q a) (prohibitedAt q a) (omega (arith, within)) (omega arith)
 
-    required-byte : getD (t .marks) (suc (2 * cell (t .letters) q a)) 0 ≡ getD bs (requiredAt q a) 0
+    pub required-byte : getD (t .marks) (suc (2 * cell (t .letters) q a)) 0 ≡ getD bs (requiredAt q a) 0
     required-byte = mark-byte (suc (2 * cell (t .letters) q a)) (requiredAt q a) (omega (arith, within)) (omega arith)
 
     pub prohibits-byte : (i : ℕ) → bit i (getD bs (prohibitedAt q a) 0) ≡ prohibits t q a (suc i)
@@ -103,13 +108,8 @@ module _ (bs : List ℕ) where
     pub counts-byte : (i : ℕ) → bit i (getD bs (requiredAt q a) 0) ≡ countsBy t (suc i) q a
     counts-byte i = let e : suc i - 1 ≡ i = omega arith in rw (e, required-byte)
 
-    marks-small : (getD (t .marks) (2 * cell (t .letters) q a) 0 < 2 ^ t .pairs) × (getD (t .marks) (suc (2 * cell (t .letters) q a)) 0 < 2 ^ t .pairs)
-    marks-small =
-        let size : cell (t .letters) q a < length (t .targets) = simp (length-take, length-drop) (omega (arith, within, taken-table bs taken .exact)) in
-        marks-below (t .pairs) (t .targets) (t .marks) (cell (t .letters) q a) (taken-table bs taken .marks-taken) size
-
     pub prohibits-below : getD bs (prohibitedAt q a) 0 < 2 ^ t .pairs
-    prohibits-below = rw prohibited-byte at (marks-small .0)
+    prohibits-below = rw prohibited-byte at (marks-small taken (cell (t .letters) q a) .0)
 
     pub counts-below : getD bs (requiredAt q a) 0 < 2 ^ t .pairs
-    counts-below = rw required-byte at (marks-small .1)
+    counts-below = rw required-byte at (marks-small taken (cell (t .letters) q a) .1)

@@ -1,7 +1,7 @@
 -- The checks of sizes and cells.
 --     sizes-fault                  the sizes within their ranges, as tests
---     target-turn, marks-turn      what is left to check after one cell more
---     target-end, marks-end        no cell is left
+--     marks-turn                   what is left to check after one cell more
+--     marks-end                    no cell is left
 use mathlib.Core.Path.{_≡_, refl, sym, _∙_}
 use mathlib.Core.Bool.{Bool, true, false, not, _&&_, _||_, or-assoc, or-false}
 use mathlib.Core.List.{List}
@@ -13,8 +13,8 @@ use lib.Dec.{eqb, ltb, leb, leb·zero, leb·suc-suc, eqb·suc-zero}
 use lib.ListN.{length, getD, drop, drop-of-length-le}
 use lib.Seq.{drop-cons, getD-drop, drop-drop}
 use borrow.Author.Tests.{leb-true, leb-false, le-ltb, lt-ltb}
-use Rattle.rules.specs.Limits.{maxStates, maxLetters, maxPairs, noState}
-use Rattle.rules.specs.Tables.{sizesFault, targetFault, markFault, marksFault}
+use Rattle.rules.specs.Limits.{maxStates, maxLetters, maxPairs}
+use Rattle.rules.specs.Tables.{sizesFault, markFault, marksFault}
 use Rattle.rules.proofs.Bools.{by}
 
 -- a size at the ends of its range
@@ -40,15 +40,6 @@ sizes-fault n m k =
     (none-of (eqb n 0) (ltb maxStates n) (eqb m 0) (ltb maxLetters m) (ltb maxPairs k))
 
 -- every cell: what was found so far, or is still to be found
-pub target-turn : (n : ℕ) (bad : Bool) (ts : List ℕ) (c : ℕ) → c < length ts
-    → (bad || not (ltb (getD ts c 0) n || eqb (getD ts c 0) noState)) || targetFault n noState (drop (c + 1) ts)
-    ≡ bad || targetFault n noState (drop c ts)
-target-turn n bad ts c l = rw (add-one c, drop-cons ts c 0 l) (or-assoc bad _ _)
-
-pub target-end : (n : ℕ) (bad : Bool) (ts : List ℕ) (c : ℕ) → length ts ≤ c
-    → bad || targetFault n noState (drop c ts) ≡ targetFault n noState ts → bad ≡ targetFault n noState ts
-target-end n bad ts c l h = sym (or-false bad) ∙ (rw (drop-of-length-le ts l) at h)
-
 pub marks-turn : (k : ℕ) (bad : Bool) (ts ms : List ℕ) (c : ℕ) → c < length ts
     → (bad || markFault k (getD ts c 0) (getD ms (2 * c) 0) (getD ms (2 * c + 1) 0)) || marksFault k (drop (c + 1) ts) (drop (2 * (c + 1)) ms)
     ≡ bad || marksFault k (drop c ts) (drop (2 * c) ms)

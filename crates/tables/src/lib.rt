@@ -10,8 +10,20 @@ mod reach;
 mod survey;
 mod words;
 
+ghost use mathlib.Core.Path.{_≡_};
 ghost use Rattle.rules.specs.Says.{CheckSays, ComponentsSay};
+ghost use Rattle.rules.specs.Tables.{tableOf};
 ghost use Rattle.tables.specs.Surveys.{SurveySays};
+
+// The table's letters: its second byte, 0 where there is none.
+pub fn letters_of(table: &[u8]) -> u8
+    ensures { λ r. ⌜ r ≡ tableOf (now (table .entry)) .letters ⌝ }
+{
+    if table.len() < 2 {
+        return 0;
+    }
+    table[1]
+}
 
 // The table's refusal, 1 to 6 in document 01's order, or 0 where the table is taken.
 pub fn check_table(table: &[u8]) -> u8

@@ -1,13 +1,13 @@
 -- `tables::check::target_fault` meets its contract. The invariant: what was found so far, or is still to be found from cell c on, is what is to be found.
 use mathlib.Core.Path.{_≡_, refl, _∙_}
 use mathlib.Core.Bool.{_||_}
-use Prim.Native.Nat.{_-_, _≤_, _<_}
+use Prim.Native.Nat.{_-_, _≤_}
 use native.Mathlib.Omega.{arith}
 use borrow.Author.Needs.{needs}
 use lib.ListN.{length, drop}
 use Rattle.rules.specs.Limits.{noState}
 use Rattle.rules.specs.Tables.{targetFault}
-use Rattle.tables.proofs.Checks.{target-turn, target-end}
+use Rattle.rules.proofs.Sets.{any-turn, any-end}
 use Rattle.tables.proofs.check.target_fault.Statement.{statement}
 use Rattle.tables.proofs.check.target_fault.Tie as tie
 
@@ -31,14 +31,10 @@ loop-less c = omega arith
 
 loop-again : tie.Need-loop-again Inv-loop μ-loop
 loop-again c =
-    let s = c .before .before .before in
-    let i = c .before .before .loop in
-    let ts = s .args .targets .now in
-    let l : i .c < length ts = omega arith in
-    (omega arith, target-turn (s .args .n) (i .bad) ts (i .c) l ∙ i .inv .1)
+    let i = c .before .before .loop in (omega arith, any-turn _ (i .bad) _ (i .c) (c .before .loop-test .taken) ∙ i .inv .1)
 
 returns : tie.Need-returns Inv-loop μ-loop
-returns c = target-end _ _ _ _ (c .loop-test .left) (c .before .loop .inv .1)
+returns c = any-end _ _ _ _ (c .loop-test .left) (c .before .loop .inv .1)
 
 pub target-fault-spec : {M : Type 1} → statement M
 target-fault-spec =
