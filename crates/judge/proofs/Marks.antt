@@ -1,0 +1,88 @@
+-- The marks of a Rabin table that is taken: the bytes of a transition, and when transitions satisfy the table.
+--     target-read, prohibited-read, required-read     where q goes by a, and the marks, at the places that the cell's number gives
+--     union-satisfies      transitions satisfy the table unless each pair that one of them requires is prohibited by one of them
+use mathlib.Core.Path.{_≡_, refl, _∙_}
+use mathlib.Core.Bool.{Bool, true, false, not, _&&_}
+use mathlib.Core.List.{List, [], _∷_}
+use Prim.Native.Nat.{ℕ, suc, _+_, _-_, _*_, _<_}
+use native.Mathlib.Nat.{lt-of-lt-of-le}
+use native.Mathlib.Omega.{arith}
+use lib.Bits.{bitAnd, and-le-l}
+use lib.Dec.{eqb, ltb}
+use lib.ListN.{getD}
+use lib.Pow.{pow-mono}
+use borrow.Author.Tests.{eq-eqb, ne-eqb, ltb-true, ltb-false, not-true}
+use Rattle.rules.specs.Basics.{any, bit}
+use Rattle.rules.specs.Judges.{satisfiesPair, satisfies}
+use Rattle.rules.specs.Limits.{headerSize}
+use Rattle.rules.specs.Runs as Runs
+use Rattle.rules.specs.Systems.{cell}
+use Rattle.rules.specs.Tables.{Table, tableOf, targetOf}
+use Rattle.rules.proofs.Bits.{bit-and, bit-over, bits-determine}
+use Rattle.rules.proofs.Bools.{by, clash, and-parts}
+use Rattle.rules.proofs.Sets.{apart, below-find, below-intro}
+use Rattle.tables.specs.Parts.{Taken}
+use Rattle.tables.proofs.Cells.{target-byte, prohibited-byte, required-byte, prohibitedAt, requiredAt, targetAt, marks-small}
+use Rattle.judge.specs.Passes.{Met, prohibitedMarks, requiredMarks}
+
+-- a test that nothing passes
+any-fails : {A : Type 0} (b : A → Bool) (xs : List A) → ((x : A) → b x ≡ false) → any b xs ≡ false
+any-fails b [] h = refl
+any-fails b (x ∷ xs) h = rw (h x, any-fails b xs h)
+
+module _ (bs : List ℕ) (sound : Taken bs) where
+  abbrev t : Table
+  t = tableOf bs
+
+  -- ---- the bytes of a transition
+  module _ (q a : ℕ) (l : q < t .states) (r : a < t .letters) where
+    abbrev c : ℕ
+    c = cell (t .letters) q a
+
+    pub target-read : targetOf t q a ≡ getD bs (headerSize + c) 0
+    target-read = let e : targetAt bs q a ≡ headerSize + c = omega arith in target-byte bs sound q a l r ∙ rw e
+
+    pub prohibited-read : prohibitedMarks t (Runs.taken q a) ≡ getD bs (headerSize + t .states * t .letters + 2 * c) 0
+    prohibited-read =
+        let e : prohibitedAt bs q a ≡ headerSize + t .states * t .letters + 2 * c = omega arith in prohibited-byte bs sound q a l r ∙ rw e
+
+    pub required-read : requiredMarks t (Runs.taken q a) ≡ getD bs (headerSize + t .states * t .letters + 2 * c + 1) 0
+    required-read =
+        let e : requiredAt bs q a ≡ headerSize + t .states * t .letters + 2 * c + 1 = omega arith in required-byte bs sound q a l r ∙ rw e
+
+  -- ---- the pairs that are satisfied
+  module _ (xs : List Runs.Taken) (p r : ℕ) (l : r < 256) (barred : Met bit (prohibitedMarks t) xs p) (met : Met bit (requiredMarks t) xs r) where
+    pair-satisfied : (i : ℕ) → satisfiesPair t (suc i) xs ≡ not (bit i p) && bit i r
+    pair-satisfied i = let e : suc i - 1 ≡ i = omega arith in rw (e, barred i, met i)
+
+    -- no pair above pair k is required
+    required-below : (i : ℕ) → bit i r ≡ true → i < t .pairs
+    required-below i h =
+        by
+        (ltb i (t .pairs))
+        (λ e. ltb-true i (t .pairs) e)
+        (λ e. let wide = pow-mono (ltb-false i (t .pairs) e) in
+        clash h (met i ∙ any-fails (λ x. bit i (requiredMarks t x)) xs (λ x. bit-over i (requiredMarks t x) (lt-of-lt-of-le (marks-small bs sound (cell (t .letters) (x .from) (x .by)) .1) wide))))
+
+    pub union-satisfies : satisfies t xs ≡ not (eqb (bitAnd r p) r)
+    union-satisfies = by (satisfies t xs) (λ e. rw (e, ne-eqb (bitAnd r p) r (some e))) (λ e. rw (e, eq-eqb (bitAnd r p) r (none e)))
+      where
+        some : satisfies t xs ≡ true → bitAnd r p ≡ r → ⊥
+        some e =
+            let f = below-find (t .pairs) (λ i. satisfiesPair t (suc i) xs) e in
+            let i = f .0 in
+            let both = and-parts (not (bit i p)) (bit i r) (rw (pair-satisfied i) at (f .2)) in
+            apart (bit i) (bit-and i r p ∙ rw (both .1, not-true (bit i p) (both .0))) (both .1)
+
+        none : satisfies t xs ≡ false → bitAnd r p ≡ r
+        none e = bits-determine 8 (bitAnd r p) r (omega (arith, and-le-l r p)) l (λ i h. bit-and i r p ∙ same i)
+          where
+            same : (i : ℕ) → bit i r && bit i p ≡ bit i r
+            same i =
+                by
+                (bit i r)
+                (λ u. by
+                (bit i p)
+                (λ v. rw (u, v))
+                (λ v. clash (below-intro (t .pairs) (λ j. satisfiesPair t (suc j) xs) i (required-below i u) (pair-satisfied i ∙ rw (u, v))) e))
+                (λ u. rw u)

@@ -1,0 +1,75 @@
+-- `judge::judge_rabin` meets its contract: a refusal of the table, a refusal of the word, or the run's answer.
+use mathlib.Core.Path.{_≡_, sym, ap, _∙_}
+use Prim.Native.Nat.{ℕ}
+use borrow.Author.Needs.{needs}
+use Rattle.rules.specs.Basics.{firstOf}
+use Rattle.rules.specs.Limits.{maxStates}
+use Rattle.rules.specs.Judges.{wordFault}
+use Rattle.rules.specs.Tables.{tableOf, tableFault}
+use Rattle.rules.proofs.Filling.{zeros-at}
+use Rattle.rules.proofs.Refusals.{taken-table, first-zero}
+use Rattle.tables.specs.Parts.{Taken}
+use Rattle.judge.proofs.Checks.{first-same, refused-given}
+use Rattle.judge.proofs.judge_rabin.Statement.{statement}
+use Rattle.judge.proofs.judge_rabin.Tie as tie
+
+-- the refusal, of the table or of the word
+module _ (c : tie.After-first-fault) where
+  abbrev start : tie.Start
+  start = c .before .before .before .before .before .before .before
+
+  refusal : c .first-fault .result ≡ firstOf (tableFault (start .args .table .now)) (wordFault (tableOf (start .args .table .now) .letters) (start .args .lead .now) (start .args .looped .now))
+  refusal =
+      c .first-fault .ensures ∙ first-same (c .before .before .before .check-table .ensures) (c .before .word-fault .ensures ∙ ap (λ (m : ℕ). wordFault m (start .args .lead .now) (start .args .looped .now)) (c .before .before .letters-of .ensures))
+
+-- nothing is refused
+taken : (c : tie.Else1) → let s = start (c .before) in Taken (s .args .table .now) × (wordFault (tableOf (s .args .table .now) .letters) (s .args .lead .now) (s .args .looped .now) ≡ 0)
+taken c = first-zero _ _ (sym (refusal (c .before)) ∙ c .if1 .left)
+
+check-table-requires : tie.Need-check-table-requires
+check-table-requires c κs = search needs
+
+letters-of-requires : tie.Need-letters-of-requires
+letters-of-requires c κs = search needs
+
+word-fault-requires : tie.Need-word-fault-requires
+word-fault-requires c κs = search needs
+
+first-fault-requires : tie.Need-first-fault-requires
+first-fault-requires c κs = search needs
+
+returns : tie.Need-returns
+returns c = rw (← refusal (c .before)) (refused-given _ _ (c .if1 .taken))
+
+slice-aggregate-judge-word : tie.Need-slice-aggregate-judge-word
+slice-aggregate-judge-word c = search needs
+
+slice-aggregate-judge-word-2 : tie.Need-slice-aggregate-judge-word-2
+slice-aggregate-judge-word-2 c = search needs
+
+slice-aggregate-judge-word-3 : tie.Need-slice-aggregate-judge-word-3
+slice-aggregate-judge-word-3 c = search needs
+
+judge-word-requires : tie.Need-judge-word-requires
+judge-word-requires c κs =
+    let t = taken (c .before .before .before) in
+    let n = taken-table _ (t .0) .sizes .most-states in
+    (t .0, t .1, record { enough = n; none = zeros-at maxStates }, n, n)
+
+returns-2 : tie.Need-returns-2
+returns-2 c = let w = c .before .before .before in let t = taken (w .before .before .before .before) in rw (t .0, t .1) (w .judge-word .ensures)
+
+pub judge-rabin-spec : {M : Type 1} → statement M
+judge-rabin-spec =
+    tie.close
+    (tie.spec
+    check-table-requires
+    letters-of-requires
+    word-fault-requires
+    first-fault-requires
+    returns
+    slice-aggregate-judge-word
+    slice-aggregate-judge-word-2
+    slice-aggregate-judge-word-3
+    judge-word-requires
+    returns-2)

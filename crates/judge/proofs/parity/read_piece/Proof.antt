@@ -1,0 +1,132 @@
+-- `judge::parity::read_piece` meets its contract. The invariant: the letters below i lead from the first row to this one, and the
+-- largest priority on the way is `peak`.
+use mathlib.Core.Path.{_≡_, ap, _∙_, subst, subst⁻¹}
+use Prim.Native.Nat.{ℕ, _-_, _*_, _+_, _≤_, _<_, max}
+use native.Mathlib.Omega.{arith}
+use borrow.Author.Needs.{needs}
+use borrow.Author.Tests.{le-ltb}
+use lib.Dec.{ltb}
+use lib.ListN.{length, getD, take}
+use lib.Seq.{take-all}
+use Rattle.rules.specs.Limits.{noRow}
+use Rattle.rules.specs.Judges.{paritySystem, priorityAt}
+use Rattle.rules.specs.Runs.{passFrom, taken}
+use Rattle.rules.specs.Systems.{System, Path, here}
+use Rattle.rules.proofs.Arrays.{getD-any}
+use Rattle.rules.proofs.Refusals.{TakenParity, taken-parity}
+use Rattle.tables.proofs.Cells.{cell-within}
+use Rattle.judge.specs.Passes.{Met}
+use Rattle.judge.proofs.Sums.{largest-joins}
+use Rattle.judge.proofs.Pieces.{letter-below, read-more, read-misses, met-letter}
+use Rattle.judge.proofs.parity.read_piece.Statement.{statement}
+use Rattle.judge.proofs.parity.read_piece.Tie as tie
+
+abbrev Inv-loop : tie.InvT-loop
+Inv-loop rows letters targets priorities piece from place₀ peak₀ i₀ place peak i =
+    (i ≤ length piece) × (place < rows) × Path (paritySystem rows letters targets) from (take i piece) place
+    × Met ltb (priorityAt letters priorities) (passFrom (paritySystem rows letters targets) from (take i piece)) peak
+
+abbrev μ-loop : tie.MeasureT-loop
+μ-loop rows letters targets priorities piece from place₀ peak₀ i₀ place peak i = length piece - i
+
+loop-holds : tie.Need-loop-holds Inv-loop μ-loop
+loop-holds c = (search needs, c .before .before .before .pre .2, here, λ i. le-ltb i 0 (omega arith))
+
+-- a letter is left
+module _ (c : tie.In-loop Inv-loop μ-loop) where
+  abbrev s : tie.Start Inv-loop μ-loop
+  s = c .before .before .before .before .before
+
+  abbrev system : System
+  system = paritySystem (s .args .rows) (s .args .letters) (s .args .targets .now)
+
+  abbrev place : ℕ
+  place = c .before .loop .place
+
+  abbrev letter : ℕ
+  letter = getD (s .args .piece .now) (c .before .loop .i) 0
+
+  table : TakenParity (s .args .rows) (s .args .letters) (s .args .targets .now) (s .args .priorities .now)
+  table = taken-parity _ _ _ _ (s .pre .0)
+
+  letter-ok : letter < s .args .letters
+  letter-ok = letter-below _ (s .args .piece .now) (s .pre .1) _ (c .loop-test .taken)
+
+  within : place * s .args .letters + letter < s .args .rows * s .args .letters
+  within = cell-within _ _ _ _ (c .before .loop .inv .1) letter-ok
+
+  goes : system .go place letter ≡ getD (s .args .targets .now) (place * s .args .letters + letter) 0
+  goes = getD-any (s .args .targets .now) (place * s .args .letters + letter) noRow 0 (omega (arith, within, table .target-cells))
+
+mul-cell : tie.Need-mul-cell Inv-loop μ-loop
+mul-cell c = omega (arith, within c, table c .most-cells)
+
+shared-slice-read-cell : tie.Need-shared-slice-read-cell Inv-loop μ-loop
+shared-slice-read-cell c = omega arith
+
+cast-cell : tie.Need-cast-cell Inv-loop μ-loop
+cast-cell c = omega (arith, letter-ok (c .before), table (c .before) .most-letters)
+
+add-cell : tie.Need-add-cell Inv-loop μ-loop
+add-cell c = omega (arith, within (c .before), table (c .before) .most-cells)
+
+mul-target : tie.Need-mul-target Inv-loop μ-loop
+mul-target c = omega (arith, within (c .before), table (c .before) .most-cells)
+
+shared-slice-read-target : tie.Need-shared-slice-read-target Inv-loop μ-loop
+shared-slice-read-target c = omega (arith, within (c .before .before), table (c .before .before) .target-cells)
+
+cast-target : tie.Need-cast-target Inv-loop μ-loop
+cast-target c = omega (arith, c .shared-slice-known5 .given (place (c .before .before) * s (c .before .before) .args .letters + letter (c .before .before)))
+
+returns : tie.Need-returns Inv-loop μ-loop
+returns c =
+    let t = c .before .before .before in
+    let gone = c .if1 .taken in
+    (record { leads = λ l. absurd (omega (arith, gone, l)); misses = λ l. read-misses (system t) _ _ _ _ (t .before .loop .inv .2) (t .loop-test .taken) (letter-ok t) (subst⁻¹ (λ (z : ℕ). s t .args .rows ≤ z) (goes t) gone) }, λ l. absurd (omega (arith, gone, l)))
+
+shared-slice-read-larger : tie.Need-shared-slice-read-larger Inv-loop μ-loop
+shared-slice-read-larger c = omega (arith, within (c .before .before .before .before), table (c .before .before .before .before) .priority-cells)
+
+larger-requires : tie.Need-larger-requires Inv-loop μ-loop
+larger-requires c κs = tt
+
+add-i : tie.Need-add-i Inv-loop μ-loop
+add-i c = omega arith
+
+loop-less : tie.Need-loop-less Inv-loop μ-loop
+loop-less c = omega arith
+
+loop-again : tie.Need-loop-again Inv-loop μ-loop
+loop-again c =
+    let t = c .before .before .before .before .before in
+    let on = c .before .before .if1 .left in
+    (omega arith, on, subst (Path (system t) (s t .args .from) _) (goes t) (read-more (system t) _ _ _ _ (t .before .loop .inv .2) (t .loop-test .taken) (letter-ok t) (subst⁻¹ (λ (z : ℕ). z < s t .args .rows) (goes t) on)), λ k. ap (ltb k) (c .larger .ensures) ∙ met-letter (system t) _ _ _ _ (t .before .loop .inv .2) (t .loop-test .taken) ltb (priorityAt (s t .args .letters) (s t .args .priorities .now)) max largest-joins _ (t .before .loop .inv .3) k)
+
+returns-2 : tie.Need-returns-2 Inv-loop μ-loop
+returns-2 c =
+    let i = c .before .loop .inv in
+    let whole = take-all (c .before .loop .i) (c .before .before .before .before .before .args .piece .now) (c .loop-test .left) in
+    (record { leads = λ l. rw whole at (i .2); misses = λ l. absurd (omega (arith, i .1, l)) }, λ l. rw whole at (i .3))
+
+pub read-piece-spec : {M : Type 1} → statement M
+read-piece-spec =
+    tie.close
+    (tie.spec
+    Inv-loop
+    μ-loop
+    loop-holds
+    mul-cell
+    shared-slice-read-cell
+    cast-cell
+    add-cell
+    mul-target
+    shared-slice-read-target
+    cast-target
+    returns
+    shared-slice-read-larger
+    larger-requires
+    add-i
+    loop-less
+    loop-again
+    returns-2)

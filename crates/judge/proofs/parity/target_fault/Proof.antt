@@ -1,0 +1,55 @@
+-- `judge::parity::target_fault` meets its contract. The invariant: what was found so far, or is still to be found from cell c on, is what is to be found.
+use mathlib.Core.Path.{_≡_, refl, _∙_}
+use mathlib.Core.Bool.{_||_}
+use Prim.Native.Nat.{_-_, _≤_}
+use native.Mathlib.Omega.{arith}
+use borrow.Author.Needs.{needs}
+use lib.ListN.{length, drop}
+use Rattle.rules.specs.Limits.{noRow}
+use Rattle.rules.specs.Tables.{targetFault}
+use Rattle.rules.proofs.Sets.{any-turn, any-end}
+use Rattle.judge.proofs.parity.target_fault.Statement.{statement}
+use Rattle.judge.proofs.parity.target_fault.Tie as tie
+
+abbrev Inv-loop : tie.InvT-loop
+Inv-loop targets rows bad₀ c₀ bad c = (c ≤ length targets) × (bad || targetFault rows noRow (drop c targets) ≡ targetFault rows noRow targets)
+
+abbrev μ-loop : tie.MeasureT-loop
+μ-loop targets rows bad₀ c₀ bad c = length targets - c
+
+loop-holds : tie.Need-loop-holds Inv-loop μ-loop
+loop-holds c = (search needs, refl)
+
+mul-target : tie.Need-mul-target Inv-loop μ-loop
+mul-target c = search needs
+
+shared-slice-read-target : tie.Need-shared-slice-read-target Inv-loop μ-loop
+shared-slice-read-target c = omega arith
+
+add-c : tie.Need-add-c Inv-loop μ-loop
+add-c c = omega arith
+
+loop-less : tie.Need-loop-less Inv-loop μ-loop
+loop-less c = omega arith
+
+loop-again : tie.Need-loop-again Inv-loop μ-loop
+loop-again c =
+    let i = c .before .before .loop in
+    (omega arith, any-turn _ (i .bad) _ (i .c) (c .before .loop-test .taken) ∙ i .inv .1)
+
+returns : tie.Need-returns Inv-loop μ-loop
+returns c = any-end _ _ _ _ (c .loop-test .left) (c .before .loop .inv .1)
+
+pub target-fault-spec : {M : Type 1} → statement M
+target-fault-spec =
+    tie.close
+    (tie.spec
+    Inv-loop
+    μ-loop
+    loop-holds
+    mul-target
+    shared-slice-read-target
+    add-c
+    loop-less
+    loop-again
+    returns)

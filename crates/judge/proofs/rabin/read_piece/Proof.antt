@@ -1,0 +1,205 @@
+-- `judge::rabin::read_piece` meets its contract. The invariant: the first i letters lead to the place, and the marks met on the way are kept.
+use mathlib.Core.Path.{_≡_}
+use mathlib.Core.List.{List}
+use Prim.Native.Nat.{ℕ, _+_, _-_, _*_, _<_, _≤_}
+use native.Mathlib.Omega.{arith}
+use lib.Bits.{bitOr}
+use lib.ListN.{length, getD, take}
+use lib.Seq.{take-all}
+use Rattle.rules.specs.Basics.{bit}
+use Rattle.rules.specs.Limits.{headerSize}
+use Rattle.rules.specs.Runs.{Taken, taken, passFrom}
+use Rattle.rules.specs.Systems.{System, Path, here, cell}
+use Rattle.rules.specs.Tables.{tableOf}
+use Rattle.rules.proofs.Bits.{bit-none}
+use Rattle.rules.proofs.Refusals.{TakenTable, taken-table}
+use Rattle.rules.proofs.Runs.{path-below}
+use Rattle.tables.specs.Parts.{systemIn}
+use Rattle.tables.proofs.Cells.{cell-within}
+use Rattle.judge.specs.Passes.{Met, MissesAfter, prohibitedMarks, requiredMarks}
+use Rattle.judge.proofs.Sums.{union-joins}
+use Rattle.judge.proofs.Pieces.{letter-below, read-more, read-misses, met-letter}
+use Rattle.judge.proofs.Marks.{target-read, prohibited-read, required-read}
+use Rattle.judge.proofs.rabin.read_piece.Statement.{statement}
+use Rattle.judge.proofs.rabin.read_piece.Tie as tie
+
+abbrev Inv-loop : tie.InvT-loop
+Inv-loop table piece from n m marks-at place₀ prohibited₀ required₀ i₀ place prohibited required i =
+    (i ≤ length piece) × Path (systemIn table) from (take i piece) place
+    × Met bit (prohibitedMarks (tableOf table)) (passFrom (systemIn table) from (take i piece)) prohibited
+    × Met bit (requiredMarks (tableOf table)) (passFrom (systemIn table) from (take i piece)) required
+
+abbrev μ-loop : tie.MeasureT-loop
+μ-loop table piece from n m marks-at place₀ prohibited₀ required₀ i₀ place prohibited required i = length piece - i
+
+known : (s : tie.Start Inv-loop μ-loop) → TakenTable (s .args .table .now)
+known s = taken-table _ (s .pre .0)
+
+-- in a turn: the letter leads from a state to the target, or the transition is missing
+module _ (c : tie.In-loop Inv-loop μ-loop) where
+  abbrev start : tie.Start Inv-loop μ-loop
+  start = c .before .before .before .before
+
+  abbrev bs : List ℕ
+  bs = start .args .table .now
+
+  abbrev s : System
+  s = systemIn bs
+
+  abbrev from : ℕ
+  from = start .args .from
+
+  abbrev piece : List ℕ
+  piece = start .args .piece .now
+
+  abbrev i : ℕ
+  i = c .before .loop .i
+
+  abbrev place : ℕ
+  place = c .before .loop .place
+
+  abbrev letter : ℕ
+  letter = getD piece i 0
+
+  abbrev targetPlace : ℕ
+  targetPlace = headerSize + cell (s .letters) place letter
+
+  path : Path s from (take i piece) place
+  path = c .before .loop .inv .1
+
+  place-below : place < s .states
+  place-below = path-below s (start .pre .2) path
+
+  letter-known : letter < s .letters
+  letter-known = letter-below (s .letters) piece (start .pre .1) i (c .loop-test .taken)
+
+  placed : TakenTable bs × (cell (s .letters) place letter < s .states * s .letters)
+  placed = (known start, cell-within (s .states) (s .letters) place letter place-below letter-known)
+
+  target-is : s .go place letter ≡ getD bs targetPlace 0
+  target-is = target-read bs (start .pre .0) place letter place-below letter-known
+
+  misses : s .states ≤ getD bs targetPlace 0 → MissesAfter s from piece i
+  misses h = read-misses s from piece i place path (c .loop-test .taken) letter-known (rw target-is h)
+
+  leads : getD bs targetPlace 0 < s .states → Path s from (take (i + 1) piece) (getD bs targetPlace 0)
+  leads h = rw target-is at (read-more s from piece i place path (c .loop-test .taken) letter-known (rw target-is h))
+
+  meets : (g : Taken → ℕ) (u v : ℕ) → g (taken place letter) ≡ v → Met bit g (passFrom s from (take i piece)) u
+      → Met bit g (passFrom s from (take (i + 1) piece)) (bitOr u v)
+  meets g u v e h = rw e at (met-letter s from piece i place path (c .loop-test .taken) bit g bitOr union-joins u h)
+
+shared-slice-read-n : tie.Need-shared-slice-read-n Inv-loop μ-loop
+shared-slice-read-n c = omega (arith, known (c .before))
+
+cast-n : tie.Need-cast-n Inv-loop μ-loop
+cast-n c = omega (arith, known (c .before))
+
+shared-slice-read-m : tie.Need-shared-slice-read-m Inv-loop μ-loop
+shared-slice-read-m c = omega (arith, known (c .before .before))
+
+cast-m : tie.Need-cast-m Inv-loop μ-loop
+cast-m c = omega (arith, known (c .before .before))
+
+mul-marks-at : tie.Need-mul-marks-at Inv-loop μ-loop
+mul-marks-at c = omega (arith, known (c .before .before))
+
+add-marks-at : tie.Need-add-marks-at Inv-loop μ-loop
+add-marks-at c = omega (arith, known (c .before .before))
+
+loop-holds : tie.Need-loop-holds Inv-loop μ-loop
+loop-holds c = (omega arith, here, bit-none, bit-none)
+
+mul-cell : tie.Need-mul-cell Inv-loop μ-loop
+mul-cell c = omega (arith, placed c)
+
+shared-slice-read-cell : tie.Need-shared-slice-read-cell Inv-loop μ-loop
+shared-slice-read-cell c = c .before .loop-test .taken
+
+cast-cell : tie.Need-cast-cell Inv-loop μ-loop
+cast-cell c = omega (arith, letter-known (c .before), known (start (c .before)))
+
+add-cell : tie.Need-add-cell Inv-loop μ-loop
+add-cell c = omega (arith, placed (c .before))
+
+add-target : tie.Need-add-target Inv-loop μ-loop
+add-target c = omega (arith, placed (c .before))
+
+shared-slice-read-target : tie.Need-shared-slice-read-target Inv-loop μ-loop
+shared-slice-read-target c = omega (arith, placed (c .before .before))
+
+cast-target : tie.Need-cast-target Inv-loop μ-loop
+cast-target c = omega (arith, c .shared-slice-known4 .given (targetPlace (c .before .before)))
+
+returns : tie.Need-returns Inv-loop μ-loop
+returns c =
+    let absent = c .if1 .taken in
+    (record { leads = λ h. absurd (omega arith); misses = misses (c .before .before .before) }, λ h. absurd (omega arith), λ h. absurd (omega arith))
+
+mul-at : tie.Need-mul-at Inv-loop μ-loop
+mul-at c = omega (arith, placed (c .before .before .before))
+
+add-at : tie.Need-add-at Inv-loop μ-loop
+add-at c = omega (arith, placed (c .before .before .before))
+
+shared-slice-read-prohibited : tie.Need-shared-slice-read-prohibited Inv-loop μ-loop
+shared-slice-read-prohibited c = omega (arith, placed (c .before .before .before .before))
+
+add-required : tie.Need-add-required Inv-loop μ-loop
+add-required c = omega (arith, placed (c .before .before .before .before))
+
+shared-slice-read-required : tie.Need-shared-slice-read-required Inv-loop μ-loop
+shared-slice-read-required c = omega (arith, placed (c .before .before .before .before .before))
+
+add-i : tie.Need-add-i Inv-loop μ-loop
+add-i c = omega arith
+
+loop-less : tie.Need-loop-less Inv-loop μ-loop
+loop-less c = omega arith
+
+loop-again : tie.Need-loop-again Inv-loop μ-loop
+loop-again c =
+    let x = c .before .before .before .before .before in
+    let held = x .before .loop .inv in
+    let barred = prohibited-read (bs x) (start x .pre .0) (place x) (letter x) (place-below x) (letter-known x) in
+    let asked = required-read (bs x) (start x .pre .0) (place x) (letter x) (place-below x) (letter-known x) in
+    (omega arith, leads x (c .before .before .if1 .left), meets x (prohibitedMarks (tableOf (bs x))) _ _ barred (held .2), meets x (requiredMarks (tableOf (bs x))) _ _ asked (held .3))
+
+returns-2 : tie.Need-returns-2 Inv-loop μ-loop
+returns-2 c =
+    let s = c .before .before .before .before in
+    let i = c .before .loop in
+    let all = take-all (i .i) (s .args .piece .now) (c .loop-test .left) in
+    let r = rw all at (i .inv) in
+    (record { leads = λ h. r .1; misses = λ h. absurd (omega (arith, h, path-below (systemIn (s .args .table .now)) (s .pre .2) (r .1))) }, λ h. r .2, λ h. r .3)
+
+pub read-piece-spec : {M : Type 1} → statement M
+read-piece-spec =
+    tie.close
+    (tie.spec
+    Inv-loop
+    μ-loop
+    shared-slice-read-n
+    cast-n
+    shared-slice-read-m
+    cast-m
+    mul-marks-at
+    add-marks-at
+    loop-holds
+    mul-cell
+    shared-slice-read-cell
+    cast-cell
+    add-cell
+    add-target
+    shared-slice-read-target
+    cast-target
+    returns
+    mul-at
+    add-at
+    shared-slice-read-prohibited
+    add-required
+    shared-slice-read-required
+    add-i
+    loop-less
+    loop-again
+    returns-2)

@@ -1,0 +1,4 @@
+-- What the judges' contracts cite beyond the rules, bottom first.
+pub mod Judgements
+pub mod Parts
+pub mod Passes

@@ -1,0 +1,121 @@
+// The Rabin judge below its refusals: the word is read once, pass by pass, until a pass begins where an earlier one began. Of each
+// pass only the pairs prohibited and the pairs required are kept, so the memory does not grow with the loop, and no letter is read
+// twice.
+use crate::Judged;
+use rules::limit::HEADER_SIZE;
+ghost use mathlib.Core.Path.{_≡_};
+ghost use mathlib.Core.Bool.{false};
+ghost use Prim.Native.Nat.{_<_, _≤_};
+ghost use lib.ListN.{length};
+ghost use Rattle.rules.specs.Basics.{bit};
+ghost use Rattle.rules.specs.Judges.{wordFault, rabinRun};
+ghost use Rattle.rules.specs.Runs.{strayLetter};
+ghost use Rattle.rules.specs.Tables.{tableOf};
+ghost use Rattle.tables.specs.Parts.{Taken, statesOf, systemIn};
+ghost use Rattle.judge.specs.Judgements.{answerOf};
+ghost use Rattle.judge.specs.Passes.{Met, MetOn, PieceSays, Blank, prohibitedMarks, requiredMarks};
+
+// Where reading a piece led, or no state where it met a missing transition; the letters read; the pairs met as prohibited and as
+// required.
+pub(crate) struct Reading {
+    pub(crate) place: usize,
+    pub(crate) read: usize,
+    pub(crate) prohibited: u8,
+    pub(crate) required: u8,
+}
+
+// Reads a piece from a state on, letter by letter, as far as the transitions lead.
+fn read_piece(table: &[u8], piece: &[u8], from: usize) -> Reading
+    requires { ⌜ Taken (now table) × (strayLetter (tableOf (now table) .letters) (now piece) ≡ false) × (from < statesOf (now table)) ⌝ }
+    ensures { λ r. ⌜ PieceSays (systemIn (now (table .entry))) from (now (piece .entry)) (r .place) (r .read) × MetOn (systemIn (now (table .entry))) bit (prohibitedMarks (tableOf (now (table .entry)))) from (now (piece .entry)) (r .place) (r .prohibited) × MetOn (systemIn (now (table .entry))) bit (requiredMarks (tableOf (now (table .entry)))) from (now (piece .entry)) (r .place) (r .required) ⌝ }
+{
+    let n = table[0] as usize;
+    let m = table[1] as usize;
+    let marks_at = HEADER_SIZE + n * m;
+    let mut place = from;
+    let mut prohibited = 0;
+    let mut required = 0;
+    let mut i = 0;
+    while i < piece.len() {
+        let cell = place * m + piece[i] as usize;
+        let target = table[HEADER_SIZE + cell] as usize;
+        if n <= target {
+            return Reading {
+                place: target,
+                read: i,
+                prohibited,
+                required,
+            };
+        }
+        let at = marks_at + 2 * cell;
+        prohibited = prohibited | table[at];
+        required = required | table[at + 1];
+        place = target;
+        i += 1;
+    }
+    Reading {
+        place,
+        read: i,
+        prohibited,
+        required,
+    }
+}
+
+// The pairs that some of the sets have.
+fn union_of(sets: &[u8]) -> u8
+    ensures { λ r. ⌜ Met bit (λ x. x) (now (sets .entry)) r ⌝ }
+{
+    let mut union = 0;
+    let mut i = 0;
+    while i < sets.len() {
+        union = union | sets[i];
+        i += 1;
+    }
+    union
+}
+
+// The answer to a word with nothing to refuse. `begun` has for each state one more than the number of the pass that began there, or
+// 0, and `prohibited` and `required` have for each pass the pairs that it meets.
+pub(crate) fn judge_word(
+    table: &[u8],
+    lead: &[u8],
+    looped: &[u8],
+    begun: &mut [u16],
+    prohibited: &mut [u8],
+    required: &mut [u8],
+) -> Judged
+    requires { ⌜ Taken (now table) × (wordFault (tableOf (now table) .letters) (now lead) (now looped) ≡ 0) × Blank (statesOf (now table)) (now begun) × (statesOf (now table) ≤ length (now prohibited)) × (statesOf (now table) ≤ length (now required)) ⌝ }
+    ensures { λ r. ⌜ answerOf r ≡ rabinRun (tableOf (now (table .entry))) (now (lead .entry)) (now (looped .entry)) ⌝ }
+{
+    let n = table[0] as usize;
+    let entry = read_piece(table, lead, table[3] as usize);
+    if n <= entry.place {
+        let read = entry.read as u32;
+        return Judged::Stops(read);
+    }
+    let mut place = entry.place;
+    let mut count = lead.len();
+    let mut pass = 0;
+    let mut first = 0;
+    while first == 0 {
+        let reading = read_piece(table, looped, place);
+        if n <= reading.place {
+            let read = (count + reading.read) as u32;
+            return Judged::Stops(read);
+        }
+        prohibited[pass] = reading.prohibited;
+        required[pass] = reading.required;
+        pass += 1;
+        begun[place] = pass as u16;
+        count += looped.len();
+        place = reading.place;
+        first = begun[place];
+    }
+    let from = first as usize - 1;
+    let barred = union_of(&prohibited[from..pass]);
+    let met = union_of(&required[from..pass]);
+    if met & barred == met {
+        return Judged::Rejects;
+    }
+    Judged::Accepts
+}
