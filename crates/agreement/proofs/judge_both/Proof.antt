@@ -1,0 +1,57 @@
+-- `agreement::judge_both` meets its contract, from the contracts of the translator and of both judges alone: the translator's says that
+-- on a table that is translated both judges give the same answer, and each judge's that it gives this answer.
+use native.Mathlib.Omega.{arith}
+use borrow.Author.Needs.{needs}
+use Rattle.judge.proofs.Judgements.{judges-agree}
+use Rattle.agreement.proofs.judge_both.Statement.{statement}
+use Rattle.agreement.proofs.judge_both.Tie as tie
+
+translate-table-requires : tie.Need-translate-table-requires
+translate-table-requires c κs = search needs
+
+judge-rabin-requires : tie.Need-judge-rabin-requires
+judge-rabin-requires c κs = search needs
+
+letters-of-requires : tie.Need-letters-of-requires
+letters-of-requires c κs = search needs
+
+cast-letters : tie.Need-cast-letters
+cast-letters c = omega (arith, c .letters-of .ok)
+
+judge-parity-requires : tie.Need-judge-parity-requires
+judge-parity-requires c κs = search needs
+
+same-length : tie.Need-same-length
+same-length c = search needs
+
+same-length-2 : tie.Need-same-length-2
+same-length-2 c = search needs
+
+same-length-3 : tie.Need-same-length-3
+same-length-3 c = search needs
+
+same-length-4 : tie.Need-same-length-4
+same-length-4 c = search needs
+
+returns : tie.Need-returns
+returns c =
+    let a = c .before .before .before .before .before .before .before .before .before .before .before .before .before .before .before .before .before .before .before .before .before .before .before .before .before .args in
+    let rabin = c .before .before .before .before .judge-rabin in
+    let translation = c .before .before .before .before .before .before .before .before .before .before .before .before .before .translate-table in
+    let parity = rw (c .before .before .before .letters-of .ensures) at (c .judge-parity .ensures) in
+    (translation .ensures .0, (rabin .ensures, (parity, λ z. judges-agree _ _ _ _ _ (a .lead .now) (a .looped .now) _ _ (translation .ensures .1 z) (rabin .ensures) parity)))
+
+pub judge-both-spec : {M : Type 1} → statement M
+judge-both-spec =
+    tie.close
+    (tie.spec
+    translate-table-requires
+    judge-rabin-requires
+    letters-of-requires
+    cast-letters
+    judge-parity-requires
+    same-length
+    same-length-2
+    same-length-3
+    same-length-4
+    returns)
