@@ -17,9 +17,9 @@ use mathlib.Core.List.{List}
 use Prim.Native.Nat.{ℕ, suc, _+_, _*_, _<_, _≤_}
 use lib.ListN.{length, getD}
 use Rattle.rules.specs.Basics.{any}
-use Rattle.rules.specs.Systems.{System, Path, cell}
+use Rattle.rules.specs.Systems.{System, Path}
 use Rattle.rules.specs.Runs.{Taken, passFrom, turn, ReadsOn, Stop}
-use Rattle.rules.specs.Tables.{Table}
+use Rattle.rules.specs.Tables.{Table, prohibitedByte, requiredByte}
 
 abbrev pub Met : {A : Type 0} → (ℕ → ℕ → Bool) → (A → ℕ) → List A → ℕ → Type 0
 Met t g xs v = (i : ℕ) → t i v ≡ any (λ x. t i (g x)) xs
@@ -36,10 +36,10 @@ abbrev pub MetOn : System → (ℕ → ℕ → Bool) → (Taken → ℕ) → ℕ
 MetOn s t g p w q v = q < s .states → Met t g (passFrom s p w) v
 
 abbrev pub prohibitedMarks : Table → Taken → ℕ
-prohibitedMarks t x = getD (t .marks) (2 * cell (t .letters) (x .from) (x .by)) 0
+prohibitedMarks t x = prohibitedByte t (x .from) (x .by)
 
 abbrev pub requiredMarks : Table → Taken → ℕ
-requiredMarks t x = getD (t .marks) (suc (2 * cell (t .letters) (x .from) (x .by))) 0
+requiredMarks t x = requiredByte t (x .from) (x .by)
 
 pub record Blank (n : ℕ) (begun : List ℕ) : Type 0 where
   pub enough : n ≤ length begun

@@ -3,6 +3,7 @@
 --     Table                    sizes, start, targets by cell, marks two by two: the prohibited byte, then the required byte
 --     tableOf bs               the table that the bytes say
 --     targetOf t q a           where q goes by a; no state where the transition is missing, nor past the last cell
+--     prohibitedByte t q a, requiredByte t q a     the marks of the transition of q by a, bit i - 1 for pair i
 --     prohibits t q a i        the transition of q by a has pair i's prohibited bit: it is in the pair's Fin set
 --     requires t q a i         the transition of q by a has pair i's required bit: it is in the pair's Inf set
 --     sizesFault n m k         a size is out of range;  tableLength n m  the bytes that the sizes demand
@@ -48,11 +49,17 @@ tableOf bs =
 abbrev pub targetOf : Table → ℕ → ℕ → ℕ
 targetOf t q a = getD (t .targets) (cell (t .letters) q a) (t .states)
 
+abbrev pub prohibitedByte : Table → ℕ → ℕ → ℕ
+prohibitedByte t q a = getD (t .marks) (2 * cell (t .letters) q a) 0
+
+abbrev pub requiredByte : Table → ℕ → ℕ → ℕ
+requiredByte t q a = getD (t .marks) (suc (2 * cell (t .letters) q a)) 0
+
 abbrev pub prohibits : Table → ℕ → ℕ → ℕ → Bool
-prohibits t q a i = bit (i - 1) (getD (t .marks) (2 * cell (t .letters) q a) 0)
+prohibits t q a i = bit (i - 1) (prohibitedByte t q a)
 
 abbrev pub requires : Table → ℕ → ℕ → ℕ → Bool
-requires t q a i = bit (i - 1) (getD (t .marks) (suc (2 * cell (t .letters) q a)) 0)
+requires t q a i = bit (i - 1) (requiredByte t q a)
 
 -- refusals
 abbrev pub sizesFault : ℕ → ℕ → ℕ → Bool

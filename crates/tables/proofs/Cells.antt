@@ -20,7 +20,7 @@ use borrow.Author.Tests.{ltb-true, not-false}
 use Rattle.rules.specs.Basics.{bit}
 use Rattle.rules.specs.Limits.{headerSize, noState}
 use Rattle.rules.specs.Systems.{cell}
-use Rattle.rules.specs.Tables.{Table, tableOf, targetOf, prohibits, markFault, marksFault, countsBy}
+use Rattle.rules.specs.Tables.{Table, tableOf, targetOf, prohibitedByte, requiredByte, prohibits, markFault, marksFault, countsBy}
 use Rattle.rules.proofs.Arrays.{getD-any}
 use Rattle.rules.proofs.Bools.{or-none, and-parts}
 use Rattle.rules.proofs.Refusals.{taken-table}
@@ -96,10 +96,10 @@ module _ (bs : List ℕ) where
     pub required-within : requiredAt q a < length bs
     required-within = omega (arith, within, taken-table bs taken .exact)
 
-    pub prohibited-byte : getD (t .marks) (2 * cell (t .letters) q a) 0 ≡ getD bs (prohibitedAt q a) 0
+    pub prohibited-byte : prohibitedByte t q a ≡ getD bs (prohibitedAt q a) 0
     prohibited-byte = mark-byte (2 * cell (t .letters) q a) (prohibitedAt q a) (omega (arith, within)) (omega arith)
 
-    pub required-byte : getD (t .marks) (suc (2 * cell (t .letters) q a)) 0 ≡ getD bs (requiredAt q a) 0
+    pub required-byte : requiredByte t q a ≡ getD bs (requiredAt q a) 0
     required-byte = mark-byte (suc (2 * cell (t .letters) q a)) (requiredAt q a) (omega (arith, within)) (omega arith)
 
     pub prohibits-byte : (i : ℕ) → bit i (getD bs (prohibitedAt q a) 0) ≡ prohibits t q a (suc i)
