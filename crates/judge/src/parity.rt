@@ -1,5 +1,5 @@
-// The parity judge below its refusals: the word is read once, pass by pass, until a pass begins where an earlier one began. Of each
-// pass only the largest priority is kept, so the memory does not grow with the loop, and no letter is read twice.
+// The refusal of a parity table, and the run over one: the word is read pass by pass, until a pass begins where an earlier one began. Of
+// each pass only the largest priority is kept, so the memory does not grow with the loop, and a pass is read once.
 use crate::Judged;
 use rules::limit::MAX_LETTERS;
 use rules::limit::MAX_ROWS;

@@ -1,6 +1,5 @@
-// The Rabin judge below its refusals: the word is read once, pass by pass, until a pass begins where an earlier one began. Of each
-// pass only the pairs prohibited and the pairs required are kept, so the memory does not grow with the loop, and no letter is read
-// twice.
+// The run over a Rabin table: the word is read pass by pass, until a pass begins where an earlier one began. Of each pass only the
+// pairs prohibited and the pairs required are kept, so the memory does not grow with the loop, and a pass is read once.
 use crate::Judged;
 use rules::limit::HEADER_SIZE;
 ghost use mathlib.Core.Path.{_≡_};

@@ -1,4 +1,4 @@
-// The refusals of a looped word.
+// The refusals of a looped word, and their place behind the table's.
 use rules::limit::MAX_PIECE;
 use rules::refusal;
 ghost use mathlib.Core.Path.{_≡_};

@@ -1,6 +1,6 @@
 -- `judge::parity::judge_word` meets its contract. The invariant: the word is underway, and of each pass the largest priority is noted.
 use mathlib.Core.Path.{_≡_, refl, sym, ap, _∙_}
-use Prim.Native.Nat.{ℕ, _-_, _+_, _*_, _%_, _≤_, _<_, _^_}
+use Prim.Native.Nat.{ℕ, _-_, _+_, _*_, _%_, _≤_, _<_}
 use native.Mathlib.Nat.{not-suc-le-zero}
 use native.Mathlib.Omega.{arith}
 use borrow.Author.Tests.{eq-eqb, ne-eqb}
@@ -61,7 +61,7 @@ module _ (c : tie.In-loop Inv-loop μ-loop) where
 
 -- the letters read before a missing transition are few enough to count
 counted : (c : tie.After-struct-known4 Inv-loop μ-loop)
-    → c .before .before .before .before .before .loop .count + c .before .before .before .read-piece2 .result .read < 2 ^ 32
+    → c .before .before .before .before .before .loop .count + c .before .before .before .read-piece2 .result .read ≤ maxPiece + maxRows * maxPiece + maxPiece
 counted c =
     let a = c .before .before .before .before .before in
     let missed = misses-within _ _ _ _ (c .before .before .before .read-piece2 .ensures .0 .misses (c .before .if2 .taken)) in
