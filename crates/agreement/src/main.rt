@@ -1,5 +1,5 @@
 // The translator and both judges, end to end. `judge_both` is demand 3 as a program: over any table, capacity, word and lent arrays
-// its contract says, from the contracts of the three calls alone, that where the table is translated both judges give the same
+// its contract says, from the contracts of the calls alone, that where the table is translated both judges give the same
 // answer. `main` runs it on the word cards of document 01; what is printed is compared with `stdout`, which was written from the
 // document.
 use judge::Judged;

@@ -1,7 +1,7 @@
 -- The checks before a judgement, and the refusals that they give.
 --     first-met, first-same             a refusal that is met is the first; refusals by equal numbers
 --     refused-given                     a refusal that is met is the answer
---     byte-letters                      the letters of a word over more letters than a parity table can have do not matter
+--     byte-letters                      over more letters than a byte can say the table is refused, whatever the word is
 --     parity-tests                      the refusal of a parity table by its tests: of the sizes, of the arrays' lengths, of the targets
 --     within-limits                     what the test of the sizes leaves
 --     part-rest                         the part of a list from a place to the end is what is left behind that place
@@ -36,7 +36,7 @@ pub refused-given : (f : ℕ) (x : Answer) → (f ≡ 0 → ⊥) → refused f �
 refused-given zero x d = absurd (d refl)
 refused-given (suc f) x d = rw (leb·suc-suc 0 f, leb·zero f)
 
--- a word is looked at over as many letters as a byte can say: a table with more is refused before
+-- a word is looked at over as many letters as a byte can say: a table with more is refused whatever the word is
 pub byte-letters : (n m : ℕ) (ts ps lead l : List ℕ)
     → firstOf (parityFault n m ts ps) (wordFault (min m 255) lead l) ≡ firstOf (parityFault n m ts ps) (wordFault m lead l)
 byte-letters n m ts ps lead l =

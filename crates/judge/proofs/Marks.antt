@@ -1,9 +1,9 @@
 -- The marks of a Rabin table that is taken: the bytes of a transition, and when transitions satisfy the table.
 --     target-read, prohibited-read, required-read     where q goes by a, and the marks, at the places that the cell's number gives
 --     union-satisfies      transitions satisfy the table unless each pair that one of them requires is prohibited by one of them
-use mathlib.Core.Path.{_≡_, refl, _∙_}
-use mathlib.Core.Bool.{Bool, true, false, not, _&&_}
-use mathlib.Core.List.{List, [], _∷_}
+use mathlib.Core.Path.{_≡_, _∙_}
+use mathlib.Core.Bool.{true, false, not, _&&_}
+use mathlib.Core.List.{List}
 use Prim.Native.Nat.{ℕ, suc, _+_, _-_, _*_, _<_}
 use native.Mathlib.Nat.{lt-of-lt-of-le}
 use native.Mathlib.Omega.{arith}
@@ -12,7 +12,7 @@ use lib.Dec.{eqb, ltb}
 use lib.ListN.{getD}
 use lib.Pow.{pow-mono}
 use borrow.Author.Tests.{eq-eqb, ne-eqb, ltb-true, ltb-false, not-true}
-use Rattle.rules.specs.Basics.{any, bit}
+use Rattle.rules.specs.Basics.{bit}
 use Rattle.rules.specs.Judges.{satisfiesPair, satisfies}
 use Rattle.rules.specs.Limits.{headerSize}
 use Rattle.rules.specs.Runs as Runs
@@ -20,15 +20,10 @@ use Rattle.rules.specs.Systems.{cell}
 use Rattle.rules.specs.Tables.{Table, tableOf, targetOf}
 use Rattle.rules.proofs.Bits.{bit-and, bit-over, bits-determine}
 use Rattle.rules.proofs.Bools.{by, clash, and-parts}
-use Rattle.rules.proofs.Sets.{apart, below-find, below-intro}
+use Rattle.rules.proofs.Sets.{any-fails, apart, below-find, below-intro}
 use Rattle.tables.specs.Parts.{Taken}
 use Rattle.tables.proofs.Cells.{target-byte, prohibited-byte, required-byte, prohibitedAt, requiredAt, targetAt, marks-small}
 use Rattle.judge.specs.Passes.{Met, prohibitedMarks, requiredMarks}
-
--- a test that nothing passes
-any-fails : {A : Type 0} (b : A → Bool) (xs : List A) → ((x : A) → b x ≡ false) → any b xs ≡ false
-any-fails b [] h = refl
-any-fails b (x ∷ xs) h = rw (h x, any-fails b xs h)
 
 module _ (bs : List ℕ) (sound : Taken bs) where
   abbrev t : Table

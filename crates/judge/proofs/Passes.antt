@@ -121,7 +121,7 @@ module _ {s : System} {q : ℕ} {lead l : List ℕ} {e r p count first : ℕ} {b
   pub underway-state : p < s .states
   underway-state = begun-below s l e r p begun (u .passes) (u .entry-state)
 
-  -- the letters of the passes that are left are few enough to count
+  -- the letters read so far are few enough to count
   pub underway-count : (n m : ℕ) → s .states ≤ n → length l ≤ m → count ≤ length lead + n * m
   underway-count n m states size =
       let few : r ≤ n = omega (arith, u .few) in

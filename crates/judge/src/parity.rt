@@ -18,10 +18,10 @@ ghost use Rattle.judge.specs.Judgements.{answerOf};
 ghost use Rattle.judge.specs.Passes.{Met, MetOn, PieceSays, Blank};
 
 // Where reading a piece led, or no row where it met a missing transition; the letters read; the largest priority met.
-pub(crate) struct Reading {
-    pub(crate) place: usize,
-    pub(crate) read: usize,
-    pub(crate) peak: u8,
+struct Reading {
+    place: usize,
+    read: usize,
+    peak: u8,
 }
 
 // Some target is neither a row nor the missing one.

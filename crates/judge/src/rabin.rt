@@ -16,11 +16,11 @@ ghost use Rattle.judge.specs.Passes.{Met, MetOn, PieceSays, Blank, prohi
 
 // Where reading a piece led, or no state where it met a missing transition; the letters read; the pairs met as prohibited and as
 // required.
-pub(crate) struct Reading {
-    pub(crate) place: usize,
-    pub(crate) read: usize,
-    pub(crate) prohibited: u8,
-    pub(crate) required: u8,
+struct Reading {
+    place: usize,
+    read: usize,
+    prohibited: u8,
+    required: u8,
 }
 
 // Reads a piece from a state on, letter by letter, as far as the transitions lead.

@@ -35,7 +35,7 @@ pub(crate) fn word_fault(m: u8, lead: &[u8], looped: &[u8]) -> u8
     0
 }
 
-// A number of letters as a byte, the largest byte where it is none: such a table is refused before the word is looked at.
+// A number of letters as a byte, the largest byte where it is none: a parity table with so many is refused whatever the word is.
 pub(crate) fn byte_of(letters: usize) -> u8
     ensures { λ r. ⌜ r ≡ min letters 255 ⌝ }
 {

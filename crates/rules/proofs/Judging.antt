@@ -6,15 +6,14 @@
 use mathlib.Core.Path.{_≡_, refl, sym, ap, _∙_}
 use mathlib.Core.Bool.{Bool, false}
 use mathlib.Core.List.{List, _++_, append-nil}
-use Prim.Native.Nat.{ℕ, zero, suc, _+_, _-_, _*_, _<_, _≤_}
-use native.Mathlib.Nat.{zero-mul, suc-mul, add-comm}
+use Prim.Native.Nat.{ℕ, suc, _+_, _-_, _*_, _<_, _≤_}
 use native.Mathlib.Omega.{arith}
 use lib.ListN.{length, length-append}
 use Rattle.rules.specs.Basics.{pick, SameSet, repeated}
 use Rattle.rules.specs.Systems.{System, Path}
 use Rattle.rules.specs.Runs.{strayLetter, At, Taken, passFrom, turn, ReadsOn, recurring, Stop, MeetsMissing}
 use Rattle.rules.specs.Answers.{accepts, rejects, stops, judgedBy}
-use Rattle.rules.proofs.Runs.{repeated-more, stop-after, stops-view, turns-path, round-back, steady-from, Endless, endless-settled, endless-window}
+use Rattle.rules.proofs.Runs.{repeated-more, repeated-length, stop-after, stops-view, turns-path, round-back, steady-from, Endless, endless-settled, endless-window}
 
 -- a missing transition, met in another part of the same word
 stop-within : (s : System) {p : ℕ} {w v : List ℕ} → w ≡ v → Stop s p w → Stop s p v
@@ -29,10 +28,6 @@ stop-within s e x =
       letter = x .letter;
       absent = x .absent;
     }
-
-repeated-length : (n : ℕ) (l : List ℕ) → length (repeated n l) ≡ n * length l
-repeated-length zero l = sym (zero-mul (length l))
-repeated-length (suc n) l = length-append l (repeated n l) ∙ rw (repeated-length n l, suc-mul n (length l)) (add-comm (length l) (n * length l))
 
 module _ (s : System) (q : ℕ) (lead l : List ℕ) (good : List Taken → Bool) where
   -- a run that does not stop

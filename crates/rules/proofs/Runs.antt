@@ -16,11 +16,11 @@ use mathlib.Core.Path.{_≡_, refl, sym, ap, _∙_, subst}
 use mathlib.Core.Logic.{_↔_, _⊎_, inl, inr, ⊎-elim}
 use mathlib.Core.Bool.{Bool, true, false, _||_, true≢false, false≢true}
 use mathlib.Core.List.{List, [], _∷_, _++_, append-assoc, append-nil}
-use Prim.Native.Nat.{ℕ, zero, suc, _+_, _-_, _≤_, _<_}
-use native.Mathlib.Nat.{zero-add, suc-add, add-comm}
+use Prim.Native.Nat.{ℕ, zero, suc, _+_, _-_, _*_, _≤_, _<_}
+use native.Mathlib.Nat.{zero-add, suc-add, add-comm, zero-mul, suc-mul}
 use native.Mathlib.Omega.{arith}
 use lib.Dec.{eqb, ltb, leb}
-use lib.ListN.{length}
+use lib.ListN.{length, length-append}
 use borrow.Author.Tests.{eqb-true, eq-eqb, leb-true, leb-false, le-leb, lt-leb, ltb-true, ltb-false}
 use Rattle.rules.specs.Basics.{any, SameSet, repeated}
 use Rattle.rules.specs.Systems.{System, Path, here, step}
@@ -39,6 +39,10 @@ repeated-add (suc n) k l = rw (suc-add, repeated-add n k l) (sym (append-assoc l
 pub repeated-more : {A : Type 0} (n : ℕ) (l : List A) → repeated (suc n) l ≡ repeated n l ++ l
 repeated-more zero l = append-nil l
 repeated-more {A} (suc n) l = ap (λ (z : List A). l ++ z) (repeated-more n l) ∙ sym (append-assoc l (repeated n l) l)
+
+pub repeated-length : {A : Type 0} (n : ℕ) (l : List A) → length (repeated n l) ≡ n * length l
+repeated-length zero l = sym (zero-mul (length l))
+repeated-length (suc n) l = length-append l (repeated n l) ∙ rw (repeated-length n l, suc-mul n (length l)) (add-comm (length l) (n * length l))
 
 pub repeated-letters : (m n : ℕ) (l : List ℕ) → strayLetter m l ≡ false → strayLetter m (repeated n l) ≡ false
 repeated-letters m zero l h = refl

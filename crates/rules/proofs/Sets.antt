@@ -1,5 +1,6 @@
 -- Lists as sets of what passes a test, numbers below a bound, the largest of a set.
 --     any-append, any-map          tests over a joined and a mapped list
+--     any-fails                    a test that nothing passes
 --     any-turn, any-end            a test over a list that is gone through from the front
 --     any-find, any-intro, any-none     a test over a list of numbers, by its elements
 --     below-find, below-intro, below-same     a test over the numbers below a bound
@@ -28,6 +29,11 @@ any-append b (x ∷ xs) ys = rw (any-append b xs ys) (sym (or-assoc (b x) (any b
 pub any-map : {A B : Type 0} (b : B → Bool) (f : A → B) (xs : List A) → any b (map f xs) ≡ any (λ x. b (f x)) xs
 any-map b f [] = refl
 any-map b f (x ∷ xs) = ap (λ (c : Bool). b (f x) || c) (any-map b f xs)
+
+-- a test that nothing passes
+pub any-fails : {A : Type 0} (b : A → Bool) (xs : List A) → ((x : A) → b x ≡ false) → any b xs ≡ false
+any-fails b [] h = refl
+any-fails b (x ∷ xs) h = rw (h x, any-fails b xs h)
 
 -- every element of a list: what was found so far, or is still to be found
 module _ (b : ℕ → Bool) (found : Bool) (xs : List ℕ) (c : ℕ) where

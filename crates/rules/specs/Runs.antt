@@ -10,7 +10,7 @@
 --     taken p a                  the transition of state p by the letter a
 --     isTaken x y                x and y are the same transition
 --     passFrom s p w             the transitions taken in reading w from p
---     follow s w p               where the letters of w lead from p
+--     follow s w p               where the letters of w lead from p, if the transitions on the way are there
 --     turn s l r p               where the repetition after the r-th of the loop l begins, the first of them at p
 --     ReadsOn s l p n            n repetitions of the loop l are read one after the other, the first of them from p
 --     settled s q lead l         the run from q after the lead-in and as many repetitions of the loop as there are states

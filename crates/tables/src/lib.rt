@@ -1,6 +1,6 @@
 // Checks a Rabin table, finds its components, and works out once a table what a translation asks of each state again and again.
 // It rests on `rules`: `check_table` and `find_components` keep the promises `CheckSays` and `ComponentsSay` there, and
-// `survey_table` keeps `SurveySays` of this crate, for every byte string and every array.
+// `survey_table` keeps `SurveySays` of this crate, for every byte string and every array; `letters_of` reads the number of letters.
 use rules::limit::HEADER_SIZE;
 use rules::limit::MAX_STATES;
 use rules::refusal;

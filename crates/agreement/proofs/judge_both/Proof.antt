@@ -1,5 +1,5 @@
--- `agreement::judge_both` meets its contract, from the contracts of the translator and of both judges alone: the translator's says that
--- on a table that is translated both judges give the same answer, and each judge's that it gives this answer.
+-- `agreement::judge_both` meets its contract, from the contracts of the calls alone: the translator's says that on a table that is
+-- translated both judgements are the same, and each judge's that it gives its judgement; `letters_of` reads the table's letters for them.
 use native.Mathlib.Omega.{arith}
 use borrow.Author.Needs.{needs}
 use Rattle.judge.proofs.Judgements.{judges-agree}
