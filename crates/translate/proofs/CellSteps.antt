@@ -28,7 +28,7 @@ use Rattle.records.specs.Words.{packed, places, isMarked, marksIn}
 use Rattle.records.proofs.Packing.{moved-packed, priority-packed, priority-unmarked}
 use Rattle.tables.specs.Parts.{Taken}
 use Rattle.translate.specs.Keys.{keyOf, rowKey, IsRow}
-use Rattle.translate.specs.Cells.{crossingKind, insideKind, crossingWord, insideWord, targetIn, prohibitedIn, requiredIn, cutMarks, cellWord, entryKey}
+use Rattle.translate.specs.Cells.{crossingKind, insideKind, crossingWord, insideWord, targetIn, cellMarks, prohibitedIn, requiredIn, cutMarks, cellWord, entryKey}
 use Rattle.translate.proofs.RowKeys.{row-pairs, entry-is-row}
 
 -- ---- tests that agree on the pairs of a record
@@ -111,8 +111,8 @@ module _ (bs : List ℕ) (taken : Taken bs) (r : Row (List ℕ)) (good : IsRow (
     inside : isInside (systemOf t) q a ≡ true
     kind : ltb w insideKind ≡ false
     target : targetIn w ≡ end
-    prohibited : prohibitedIn w ≡ prohibitedCut
-    required : requiredIn w ≡ requiredCut
+    prohibited : prohibitedIn (cellMarks w) ≡ prohibitedCut
+    required : requiredIn (cellMarks w) ≡ requiredCut
     step : x ≡ insideStep (systemOf t) (recordKeeper t) r a
 
   record CrossingCell : Type 0 where
@@ -120,8 +120,8 @@ module _ (bs : List ℕ) (taken : Taken bs) (r : Row (List ℕ)) (good : IsRow (
     crossing : isInside (systemOf t) q a ≡ false
     kind : ltb w insideKind ≡ true
     target : targetIn w ≡ end
-    prohibited : prohibitedIn w ≡ 0
-    required : requiredIn w ≡ 0
+    prohibited : prohibitedIn (cellMarks w) ≡ 0
+    required : requiredIn (cellMarks w) ≡ 0
     step : x ≡ crossingStep (systemOf t) (recordKeeper t) r a
 
   inside-cell : end < t .states → isInside (systemOf t) q a ≡ true → InsideCell
@@ -183,14 +183,14 @@ module _ (bs : List ℕ) (taken : Taken bs) (r : Row (List ℕ)) (good : IsRow (
           }
 
   pub word-key : ltb w crossingKind ≡ false
-      → pick (ltb w insideKind) (entryKey t (targetIn w)) (keyOf (targetIn w) (packed (moved asTheyStood (isMarked (prohibitedIn w)) (places (packed (r .memory))))))
+      → pick (ltb w insideKind) (entryKey t (targetIn w)) (keyOf (targetIn w) (packed (moved asTheyStood (isMarked (prohibitedIn (cellMarks w))) (places (packed (r .memory))))))
       ≡ rowKey (x .to)
   word-key f =
       by-kind f
       (λ c. rw (c .kind, c .target, c .prohibited, c .step, moved-packed (r .memory) (good .few) (row-pairs t few r good) (isMarked prohibitedCut) refl, moved-same (isMarked prohibitedCut) (prohibits t q a) (r .memory) (cut-marked (prohibits t q a))))
       (λ c. rw (c .kind, c .target, c .step))
 
-  pub word-priority : ltb w crossingKind ≡ false → priority (marksIn (prohibitedIn w) (requiredIn w)) (places (packed (r .memory))) ≡ x .prio
+  pub word-priority : ltb w crossingKind ≡ false → priority (marksIn (prohibitedIn (cellMarks w)) (requiredIn (cellMarks w))) (places (packed (r .memory))) ≡ x .prio
   word-priority f =
       by-kind f
       (λ c. rw (c .prohibited, c .required, c .step) inside-priority)

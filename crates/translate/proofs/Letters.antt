@@ -1,9 +1,11 @@
 -- A row of a table's translation is read by a letter.
---     key-missing, key-there, key-priority, key-next     what the word of a cell says of the step of the row that a key stands for
+--     effect-small         the word of a record that has moved is small
+--     key-missing, key-there, key-priority, key-next     what the word of a cell, and the effect of its marks, say of the step of the row
+--                          that a key stands for
 --     key-row              the row of a number is the one that its key stands for
 --     letter-missing       the transition is missing: its cell is written, and the rows stay
 --     letter-there         the transition is there: its target's row is settled, and its cell is written
-use mathlib.Core.Path.{_≡_, refl, sym, ap, _∙_}
+use mathlib.Core.Path.{_≡_, refl, sym, ap, _∙_, subst}
 use mathlib.Core.Bool.{true, false}
 use mathlib.Core.List.{List, [], _∷_, _++_}
 use Prim.Native.Nat.{ℕ, suc, _+_, _*_, _<_, _≤_}
@@ -15,17 +17,19 @@ use borrow.Author.Tests.{ltb-true, ltb-false}
 use Rattle.rules.specs.Basics.{pick}
 use Rattle.rules.specs.Limits.{maxPairs, noRow}
 use Rattle.rules.specs.Systems.{cell}
-use Rattle.rules.specs.Records.{asTheyStood, moved, priority}
 use Rattle.rules.specs.Rows.{Row, Step, Plan, rowAt, numberOf, met, targetNumber}
 use Rattle.rules.specs.Tables.{Table, tableOf}
 use Rattle.rules.proofs.Bools.{by}
 use Rattle.rules.proofs.Refusals.{taken-table}
 use Rattle.rules.proofs.RabinTables.{table-same}
-use Rattle.records.specs.Words.{isMarked, marksIn, packed, places}
+use Rattle.records.specs.Words.{isMarked, packed, places}
+use Rattle.records.proofs.Packing.{moved-small, places-below, places-length}
 use Rattle.tables.specs.Parts.{Taken}
 use Rattle.tables.proofs.Cells.{cell-within}
-use Rattle.translate.specs.Keys.{keyOf, rowKey, sourceIn, wordIn, keyRow, IsRow, IsKey, rowsIn}
-use Rattle.translate.specs.Cells.{crossingKind, insideKind, targetIn, prohibitedIn, requiredIn, cellWord, Entries}
+use Rattle.translate.specs.declared.effects.Effect.{Effect}
+use Rattle.translate.specs.Keys.{span, keyOf, rowKey, sourceIn, wordIn, keyRow, IsRow, IsKey, rowsIn}
+use Rattle.translate.specs.Cells.{crossingKind, insideKind, targetIn, cellMarks, prohibitedIn, cellWord, Entries}
+use Rattle.translate.specs.Effects.{IsEffect}
 use Rattle.translate.specs.Filing.{rowsAfter, Settles}
 use Rattle.translate.specs.Exploring.{Read, planIn, lettersOf, Known, LetterSays}
 use Rattle.translate.proofs.Rests.{beyond-none, beyond-set}
@@ -33,32 +37,38 @@ use Rattle.translate.proofs.RowKeys.{row-word, row-of-key, row-is-key}
 use Rattle.translate.proofs.CellSteps.{word-missing, word-there, word-key, word-priority}
 use Rattle.translate.proofs.Reading.{decoded-length, decoded-at, decoded-more, number-decoded, met-missing, met-there, target-there, step-known, read-more}
 
--- ---- what the word of a cell says of the step of the row that a key stands for
-module _ (bs : List ℕ) (taken : Taken bs) (a key v word : ℕ) (is : key ≡ v) (code : IsKey (tableOf bs) v) (says : word ≡ cellWord (tableOf bs) (sourceIn key) a) where
+-- ---- what the word of a cell, and the effect of its marks, say of the step of the row that a key stands for
+pub effect-small : (order : ℕ) (e : Effect) → IsEffect order e → e .word < span
+effect-small order e f =
+    rw (f .word) (moved-small (isMarked (prohibitedIn (e .marks))) (places order) 6 (places-below 6 order) (omega (arith, places-length 6 order)))
+
+module _ (bs : List ℕ) (taken : Taken bs) (a v word : ℕ) (code : IsKey (tableOf bs) v) (says : word ≡ cellWord (tableOf bs) (sourceIn v) a) where
   abbrev step : Step (Row (List ℕ))
   step = planIn bs .step (keyRow v) a
 
-  word-is : word ≡ cellWord (tableOf bs) (keyRow v .source) a
-  word-is = rw is at says
-
-  memory-is : wordIn key ≡ packed (keyRow v .memory)
-  memory-is = ap wordIn (is ∙ sym (code .exact)) ∙ (row-word (tableOf bs) (taken-table bs taken .sizes .most-pairs) (keyRow v) (code .is-row))
+  memory-is : wordIn v ≡ packed (keyRow v .memory)
+  memory-is = ap wordIn (sym (code .exact)) ∙ row-word (tableOf bs) (taken-table bs taken .sizes .most-pairs) (keyRow v) (code .is-row)
 
   pub key-missing : ltb word crossingKind ≡ true → (step .there ≡ false) × (step .prio ≡ 0)
-  key-missing h = word-missing bs taken (keyRow v) (code .is-row) a (rw word-is at h)
+  key-missing h = word-missing bs taken (keyRow v) (code .is-row) a (rw says at h)
 
   pub key-there : ltb word crossingKind ≡ false → (step .there ≡ true) × (targetIn word < tableOf bs .states) × IsRow (tableOf bs) (step .to)
-  key-there h = rw word-is (word-there bs taken (keyRow v) (code .is-row) a (rw word-is at h))
+  key-there h = rw says (word-there bs taken (keyRow v) (code .is-row) a (rw says at h))
 
-  pub key-priority : ltb word crossingKind ≡ false → priority (marksIn (prohibitedIn word) (requiredIn word)) (places (wordIn key)) ≡ step .prio
-  key-priority h = rw (memory-is, word-is) (word-priority bs taken (keyRow v) (code .is-row) a (rw word-is at h))
+  module _ (e : Effect) (f : IsEffect (wordIn v) e) (marks : e .marks ≡ cellMarks word) where
+    on-memory : IsEffect (packed (keyRow v .memory)) e
+    on-memory = subst (λ (x : ℕ). IsEffect x e) memory-is f
 
-  pub key-next : ltb word crossingKind ≡ false → (entries : List ℕ) → Entries (tableOf bs) entries
-      → pick (ltb word insideKind) (getD entries (targetIn word) 0) (keyOf (targetIn word) (packed (moved asTheyStood (isMarked (prohibitedIn word)) (places (wordIn key))))) ≡ rowKey (step .to)
-  key-next h entries e =
-      rw
-      (e .entry (targetIn word) (key-there h .1), memory-is, word-is)
-      (word-key bs taken (keyRow v) (code .is-row) a (rw word-is at h))
+    pub key-priority : ltb word crossingKind ≡ false → e .priority ≡ step .prio
+    key-priority h =
+        on-memory .prio ∙ rw (marks, says) (word-priority bs taken (keyRow v) (code .is-row) a (rw says at h))
+
+    pub key-next : ltb word crossingKind ≡ false → (entries : List ℕ) → Entries (tableOf bs) entries
+        → pick (ltb word insideKind) (getD entries (targetIn word) 0) (keyOf (targetIn word) (e .word)) ≡ rowKey (step .to)
+    key-next h entries x =
+        rw
+        (x .entry (targetIn word) (key-there h .1), on-memory .word, marks, says)
+        (word-key bs taken (keyRow v) (code .is-row) a (rw says at h))
 
 -- ---- a letter is read
 pub key-row : (bs keys : List ℕ) (n i : ℕ) → i < n → rowAt (planIn bs) (rowsIn n keys) i ≡ keyRow (getD keys i 0)

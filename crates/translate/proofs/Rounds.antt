@@ -3,29 +3,31 @@
 --     row-begun, row-next, row-done     no letter; one letter more; all letters, or more rows than there is room for
 --     RowsPart              the rows below i are read
 --     rows-begun, rows-next, rows-done     no row; one row more; all rows, or more than there is room for
+--     explored-wider        what was found with a smaller capacity that was enough
+--     explored-again        a second exploration, with a capacity that is not smaller
 use mathlib.Core.Path.{_≡_, refl, sym, ap, _∙_}
 use mathlib.Core.Bool.{true, false, _&&_, and-false}
 use mathlib.Core.List.{List, [], _∷_}
 use Prim.Native.Nat.{ℕ, suc, _+_, _-_, _*_, _<_, _≤_}
-use native.Mathlib.Nat.{suc-mul, zero-mul}
+use native.Mathlib.Nat.{suc-mul, zero-mul, mul-le-mul}
 use native.Mathlib.Numerals.{add-one}
 use native.Mathlib.Omega.{arith}
 use lib.Dec.{ltb, leb}
 use lib.ListN.{length, getD}
 use lib.Seq.{getD-set-same}
-use borrow.Author.Tests.{ltb-true, ltb-false, lt-ltb, leb-false, le-leb, lt-leb}
+use borrow.Author.Tests.{ltb-true, ltb-false, lt-ltb, le-ltb, leb-false, le-leb, lt-leb}
 use Rattle.rules.specs.Limits.{noRow}
 use Rattle.rules.specs.Systems.{cell}
 use Rattle.rules.specs.Rows.{Row, Plan, rowAt, met, foundBy, foundFrom, rowsOf}
 use Rattle.rules.specs.Tables.{tableOf}
 use Rattle.rules.proofs.Bools.{by, and-both}
 use Rattle.rules.proofs.RabinTables.{table-same}
-use Rattle.rules.proofs.Exploration.{met-longer, by-next, by-grows, from-on, from-stop}
+use Rattle.rules.proofs.Exploration.{met-longer, by-next, by-grows, from-on, from-stop, rows-enough}
 use Rattle.translate.specs.Arrays.{Beyond}
 use Rattle.translate.specs.Keys.{keyRow, IsKey, rowsIn}
 use Rattle.translate.specs.Filing.{Settles}
 use Rattle.translate.specs.Exploring.{planIn, lettersOf, Known, LetterSays, RowSays, ExploreSays}
-use Rattle.translate.proofs.Rests.{beyond-none, beyond-then}
+use Rattle.translate.proofs.Rests.{beyond-none, beyond-then, beyond-wider}
 use Rattle.translate.proofs.Reading.{decoded-length, decoded-more, read-none}
 use Rattle.translate.proofs.Letters.{key-row}
 
@@ -236,3 +238,37 @@ module _ (bs : List ℕ) (c : ℕ) (ss es ts ps : List ℕ) where
           (ltb i r)
           (λ e. absurd (omega (arith, leb-false r c (rw e at test))))
           (λ e. omega (arith, ltb-false i r e, f .within))
+
+-- ---- explorations with two capacities
+module _ (bs : List ℕ) (c c′ : ℕ) (wide : c ≤ c′) (ss ss′ es es′ ts ts′ ps ps′ : List ℕ) (r : ℕ) (x : ExploreSays bs c ss ss′ es es′ ts ts′ ps ps′ r) where
+  cells-wide : c * lettersOf bs ≤ c′ * lettersOf bs
+  cells-wide = mul-le-mul wide (omega arith)
+
+  pub explored-wider : r ≤ c → ExploreSays bs c′ ss ss′ es es′ ts ts′ ps ps′ r
+  explored-wider few =
+      let same : rowsOf (planIn bs) c′ ≡ rowsOf (planIn bs) c = rows-enough (planIn bs) (table-same (tableOf bs)) c c′ wide (sym (x .full) ∙ le-ltb c r few) in
+      record {
+        full = le-ltb c′ r (omega arith) ∙ sym (rw same (le-ltb c′ (length (rowsOf (planIn bs) c)) (omega (arith, x .count few))));
+        count = λ h. rw same (x .count few);
+        states = λ h. rw same (x .states few);
+        numbers = λ h. rw same (x .numbers few);
+        read = λ h. rw same (x .read few);
+        target-rest = beyond-wider cells-wide (x .target-rest);
+        priority-rest = beyond-wider cells-wide (x .priority-rest);
+        state-rest = beyond-wider wide (x .state-rest);
+        number-rest = beyond-wider wide (x .number-rest);
+      }
+
+  pub explored-again : (ss″ es″ ts″ ps″ : List ℕ) (r′ : ℕ) → ExploreSays bs c′ ss′ ss″ es′ es″ ts′ ts″ ps′ ps″ r′ → ExploreSays bs c′ ss ss″ es es″ ts ts″ ps ps″ r′
+  explored-again ss″ es″ ts″ ps″ r′ y =
+      record {
+        full = y .full;
+        count = y .count;
+        states = y .states;
+        numbers = y .numbers;
+        read = y .read;
+        target-rest = beyond-then (beyond-wider cells-wide (x .target-rest)) (y .target-rest);
+        priority-rest = beyond-then (beyond-wider cells-wide (x .priority-rest)) (y .priority-rest);
+        state-rest = beyond-then (beyond-wider wide (x .state-rest)) (y .state-rest);
+        number-rest = beyond-then (beyond-wider wide (x .number-rest)) (y .number-rest);
+      }

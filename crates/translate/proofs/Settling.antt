@@ -13,7 +13,7 @@ use borrow.Author.Tests.{eqb-true, eqb-false, eq-eqb, ne-eqb, ltb-true, ltb-fals
 use Rattle.rules.specs.Limits.{maxRows}
 use Rattle.rules.proofs.Bools.{by}
 use Rattle.rules.proofs.Exploration.{place-found, place-least, place-most}
-use Rattle.translate.specs.Index.{slots, Apart, numberAmong}
+use Rattle.translate.specs.Index.{slotOf, Apart, numberAmong}
 use Rattle.translate.specs.Keys.{sourceIn, numberIn}
 use Rattle.translate.specs.Filing.{Noted, Filed, RowAdded, Settles}
 use Rattle.translate.proofs.Chains.{indexed-none, indexed-more}
@@ -67,19 +67,19 @@ apart-more n key keys room absent apart i j l lj e =
     (λ h. absent i (omega (arith, eqb-true j n h)) (sym low ∙ e ∙ (rw (eqb-true j n h) (getD-set-same keys n key 0 room))))
     (λ h. let d = eqb-false j n h in apart i j l (omega arith) (sym low ∙ e ∙ getD-set-other keys n j key 0 d))
 
-pub filed-none : (c : ℕ) (keys heads links ss es : List ℕ) → c ≤ maxRows → c ≤ length keys → slots ≤ length heads → c ≤ length links → c ≤ length ss
+pub filed-none : (c : ℕ) (keys heads links ss es : List ℕ) → c ≤ maxRows → c ≤ length keys → 0 < length heads → c ≤ length links → c ≤ length ss
     → c ≤ length es → ((s : ℕ) → getD heads s 0 ≡ 0) → Filed c 0 keys heads links ss es
 filed-none c keys heads links ss es most a b d e f z =
     record {
       few = omega arith;
       most = most;
       key-room = a;
-      head-room = b;
+      some-slots = b;
       link-room = d;
       state-room = e;
       number-room = f;
       apart = λ i j l lj. absurd (omega arith);
-      indexed = indexed-none keys heads links z;
+      indexed = indexed-none (length heads) keys heads links z;
       states = λ i l. absurd (omega arith);
       numbers = λ i l. absurd (omega arith);
     }
@@ -117,13 +117,13 @@ module _ (c key n : ℕ) (keys heads links ss es : List ℕ) (f : Filed c n keys
     filed-more : n < c → Absent-key → Filed c (suc n) keys′ heads′ links′ ss′ es′
     filed-more l absent =
         let lk : n < length keys = omega (arith, f .key-room) in
-        let lh = f .head-room in
+        let some = f .some-slots in
         let ll : n < length links = omega (arith, f .link-room) in
         let ls : n < length ss = omega (arith, f .state-room) in
         let le : n < length es = omega (arith, f .number-room) in
         rw
         (x .key-array, x .head-array, x .link-array, x .state-array, x .number-array)
-        (record { few = l; most = f .most; key-room = simp length-set (f .key-room); head-room = simp length-set lh; link-room = simp length-set (f .link-room); state-room = simp length-set (f .state-room); number-room = simp length-set (f .number-room); apart = apart-more n key keys lk absent (f .apart); indexed = indexed-more n key keys heads links lk lh ll (f .indexed); states = noted-more sourceIn n key keys ss lk ls (f .states); numbers = noted-more numberIn n key keys es lk le (f .numbers) })
+        (record { few = l; most = f .most; key-room = simp length-set (f .key-room); some-slots = simp length-set some; link-room = simp length-set (f .link-room); state-room = simp length-set (f .state-room); number-room = simp length-set (f .number-room); apart = apart-more n key keys lk absent (f .apart); indexed = rw (length-set heads (slotOf (length heads) key) (suc n)) (indexed-more (length heads) n key keys heads links some lk (omega arith) ll (f .indexed)); states = noted-more sourceIn n key keys ss lk ls (f .states); numbers = noted-more numberIn n key keys es lk le (f .numbers) })
 
     pub settled-added : n < c → Absent-key → Settles c key n keys keys′ heads′ links′ ss ss′ es es′ n
     settled-added l absent =

@@ -2,7 +2,7 @@
 --     crossingKind, insideKind     what is added for the kind of a transition that is there; the word of a missing one is 0
 --     crossingWord x               the word of a crossing to x: its marks are ignored
 --     insideWord x p r             the word of an inside transition to x with prohibited pairs p and required pairs r
---     targetIn, prohibitedIn, requiredIn w     the parts of a word
+--     targetIn, cellMarks w          the parts of a word;  prohibitedIn, requiredIn marks  the parts of marks
 --     cutMarks t q b               the pairs that pass b and count in q's component, as bits: bit i - 1 for pair i
 --     cellWord t q a               the word of the transition of q by a
 --     Cells t p cells              the words of the cells below p;  AllCells t cells  of all cells
@@ -35,11 +35,14 @@ insideWord x p r = insideKind + (x + (256 * p + 65536 * r))
 abbrev pub targetIn : ℕ → ℕ
 targetIn w = w % 256
 
+abbrev pub cellMarks : ℕ → ℕ
+cellMarks w = w / 256
+
 abbrev pub prohibitedIn : ℕ → ℕ
-prohibitedIn w = w / 256 % 256
+prohibitedIn marks = marks % 256
 
 abbrev pub requiredIn : ℕ → ℕ
-requiredIn w = w / 65536 % 256
+requiredIn marks = marks / 256 % 256
 
 abbrev pub cutMarks : Table → ℕ → (ℕ → Bool) → ℕ
 cutMarks t q b = asBits (t .pairs) (λ i. b (suc i) && counts t q (suc i))

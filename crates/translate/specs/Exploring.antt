@@ -6,6 +6,8 @@
 --     LetterSays bs c n i a ..     row i has been read by the letter a
 --     RowSays bs c n i ..          row i has been read by all letters
 --     Room bs c a b d e            the capacity c is in range, and the lent arrays have room for as many rows
+--     fewRows                      the rows for which the translator's small arrays are enough
+--     Empty c keys heads links     no key is indexed, and there is room for c
 --     ExploreSays bs c ..          all rows have been read, or more than c were found
 --     keptRows c r                 how many of r rows found are kept: none if there are more than c
 use mathlib.Core.Path.{_≡_}
@@ -72,6 +74,15 @@ pub record Room (bs : List ℕ) (c : ℕ) (a b d e : List ℕ) : Type 0 where
   pub priority-room : c * lettersOf bs ≤ length b
   pub state-room : c ≤ length d
   pub number-room : c ≤ length e
+
+abbrev pub fewRows : ℕ
+fewRows = 64
+
+pub record Empty (c : ℕ) (keys heads links : List ℕ) : Type 0 where
+  pub key-room : c ≤ length keys
+  pub some-slots : 0 < length heads
+  pub link-room : c ≤ length links
+  pub no-heads : (s : ℕ) → getD heads s 0 ≡ 0
 
 pub record ExploreSays (bs : List ℕ) (c : ℕ) (ss ss′ es es′ ts ts′ ps ps′ : List ℕ) (r : ℕ) : Type 0 where
   pub full : ltb c r ≡ isFull (planIn bs) c

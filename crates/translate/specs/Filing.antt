@@ -12,7 +12,7 @@ use lib.ListN.{length, getD, set}
 use Rattle.rules.specs.Basics.{pick}
 use Rattle.rules.specs.Limits.{maxRows}
 use Rattle.translate.specs.Arrays.{Beyond}
-use Rattle.translate.specs.Index.{slots, slotOf, Indexed, Apart, numberAmong}
+use Rattle.translate.specs.Index.{slotOf, Indexed, Apart, numberAmong}
 use Rattle.translate.specs.Keys.{sourceIn, numberIn}
 
 abbrev pub Noted : (ℕ → ℕ) → ℕ → List ℕ → List ℕ → Type 0
@@ -22,19 +22,19 @@ pub record Filed (c n : ℕ) (keys heads links ss es : List ℕ) : Type 0 where
   pub few : n ≤ c
   pub most : c ≤ maxRows
   pub key-room : c ≤ length keys
-  pub head-room : slots ≤ length heads
+  pub some-slots : 0 < length heads
   pub link-room : c ≤ length links
   pub state-room : c ≤ length ss
   pub number-room : c ≤ length es
   pub apart : Apart n keys
-  pub indexed : Indexed n keys heads links
+  pub indexed : Indexed (length heads) n keys heads links
   pub states : Noted sourceIn n keys ss
   pub numbers : Noted numberIn n keys es
 
 pub record RowAdded (key n : ℕ) (keys keys′ heads heads′ links links′ ss ss′ es es′ : List ℕ) : Type 0 where
   pub key-array : keys′ ≡ set keys n key
-  pub head-array : heads′ ≡ set heads (slotOf key) (suc n)
-  pub link-array : links′ ≡ set links n (getD heads (slotOf key) 0)
+  pub head-array : heads′ ≡ set heads (slotOf (length heads) key) (suc n)
+  pub link-array : links′ ≡ set links n (getD heads (slotOf (length heads) key) 0)
   pub state-array : ss′ ≡ set ss n (sourceIn key)
   pub number-array : es′ ≡ set es n (numberIn key)
 

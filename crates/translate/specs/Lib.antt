@@ -4,4 +4,5 @@ pub mod Index
 pub mod Keys
 pub mod Filing
 pub mod Cells
+pub mod Effects
 pub mod Exploring

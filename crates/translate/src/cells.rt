@@ -1,5 +1,4 @@
 // What a table says of each cell, worked out once a table: one word a cell, and the key by which a crossing enters at each state.
-use crate::keys::SPAN;
 use crate::keys::key_of;
 use records::Record;
 use rules::limit::HEADER_SIZE;
@@ -9,13 +8,11 @@ ghost use lib.Bits.{bitAnd};
 ghost use lib.Dec.{leb, ltb};
 ghost use lib.ListN.{length, getD};
 ghost use Rattle.rules.specs.Basics.{pick};
-ghost use Rattle.rules.specs.Records.{asTheyStood, moved, priority};
 ghost use Rattle.rules.specs.Tables.{tableOf};
-ghost use Rattle.records.specs.Words.{isMarked, marksIn, packed, places};
 ghost use Rattle.tables.specs.Parts.{Taken, statesOf, Listed};
 ghost use Rattle.tables.specs.Surveys.{insideLetters, countedPairs};
-ghost use Rattle.translate.specs.Keys.{keyOf, wordIn};
-ghost use Rattle.translate.specs.Cells.{crossingKind, insideKind, crossingWord, insideWord, targetIn, prohibitedIn, requiredIn, Cells, AllCells, Entries};
+ghost use Rattle.translate.specs.Keys.{span, keyOf};
+ghost use Rattle.translate.specs.Cells.{crossingKind, insideKind, crossingWord, insideWord, targetIn, cellMarks, Cells, AllCells, Entries};
 
 // What is added for the kind of a transition that is there.
 const CROSSING: u32 = 16777216;
@@ -97,43 +94,21 @@ pub(crate) fn is_missing(word: u32) -> bool
     word < CROSSING
 }
 
-// The pairs that a transition prohibits, of those that count.
-fn prohibited_in(word: u32) -> u8
-    ensures { λ r. ⌜ r ≡ prohibitedIn word ⌝ }
+// The marks in a word: what stands above the target.
+pub(crate) fn marks_of(word: u32) -> u32
+    ensures { λ r. ⌜ r ≡ cellMarks word ⌝ }
 {
-    (word / 256 % 256) as u8
+    word / 256
 }
 
-// The pairs that a transition requires, of those that count.
-fn required_in(word: u32) -> u8
-    ensures { λ r. ⌜ r ≡ requiredIn word ⌝ }
-{
-    (word / 65536 % 256) as u8
-}
-
-// The priority of a transition that is there, by the key of the row that it leaves. A crossing has no marks, so its priority is 1.
-pub(crate) fn priority_of(word: u32, key: u32) -> u8
-    ensures { λ r. ⌜ r ≡ priority (marksIn (prohibitedIn word) (requiredIn word)) (places (wordIn key)) ⌝ }
-{
-    let order = Record { word: key % SPAN };
-    order.priority(prohibited_in(word), required_in(word))
-}
-
-// The key of the row to which a transition leads that is there, by the key of the row that it leaves. Where nothing that counts is
-// prohibited, the record stays.
-pub(crate) fn next_key(word: u32, key: u32, entries: &[u32]) -> u32
-    requires { ⌜ targetIn word < length (now entries) ⌝ }
-    ensures { λ r. ⌜ r ≡ pick (ltb word insideKind) (getD (now (entries .entry)) (targetIn word) 0) (keyOf (targetIn word) (packed (moved asTheyStood (isMarked (prohibitedIn word)) (places (wordIn key))))) ⌝ }
+// The key of the row to which a transition leads that is there, where `moved` is the word of the record after the move.
+pub(crate) fn next_key(word: u32, moved: u32, entries: &[u32]) -> u32
+    requires { ⌜ (targetIn word < length (now entries)) × (moved < span) ⌝ }
+    ensures { λ r. ⌜ r ≡ pick (ltb word insideKind) (getD (now (entries .entry)) (targetIn word) 0) (keyOf (targetIn word) moved) ⌝ }
 {
     let target = word % 256;
     if word < INSIDE {
         return entries[target as usize];
     }
-    let pairs = prohibited_in(word);
-    let order = Record { word: key % SPAN };
-    if pairs == 0 {
-        return key_of(target, order.word);
-    }
-    let next = order.moved(pairs);
-    key_of(target, next.word)
+    key_of(target, moved)
 }

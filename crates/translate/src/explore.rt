@@ -1,31 +1,43 @@
 // The exploration: rows are read by number, letters rising within each, and each row is filed as it is found. Every cell of the
 // lent arrays is written once, as it is read.
 use crate::cells::is_missing;
+use crate::cells::marks_of;
 use crate::cells::next_key;
-use crate::cells::priority_of;
+use crate::effects::Effect;
+use crate::effects::effect_after;
+use crate::effects::effect_of;
 use crate::filing::rows_after;
 use crate::filing::settle;
-use crate::index::SLOTS;
 use crate::keys::SPAN;
 use rules::limit::MAX_ROWS;
 use rules::limit::NO_ROW;
 ghost use mathlib.Core.Path.{_≡_};
-ghost use Prim.Native.Nat.{_*_, _<_};
+ghost use Prim.Native.Nat.{_*_, _<_, _≤_};
 ghost use lib.ListN.{getD};
 ghost use Rattle.rules.specs.Systems.{cell};
 ghost use Rattle.rules.specs.Tables.{tableOf};
 ghost use Rattle.tables.specs.Parts.{Taken};
-ghost use Rattle.translate.specs.Cells.{AllCells, Entries};
-ghost use Rattle.translate.specs.Exploring.{lettersOf, Known, LetterSays, RowSays, Room, ExploreSays};
+ghost use Rattle.translate.specs.Keys.{sourceIn, wordIn};
+ghost use Rattle.translate.specs.Cells.{cellMarks, cellWord, AllCells, Entries};
+ghost use Rattle.translate.specs.Effects.{IsEffect};
+ghost use Rattle.translate.specs.Exploring.{lettersOf, fewRows, Known, LetterSays, RowSays, Room, Empty, ExploreSays};
 
-// Reads row i, whose key is `key`, by the letter a, and gives how many rows are known then.
+// The rows for which small arrays of our own are enough, and the slots of their index.
+const FEW_ROWS: usize = 64;
+
+const FEW_SLOTS: usize = 128;
+
+// The slots of the index of many rows.
+const SLOTS: usize = 8192;
+
+// Reads row i by the letter a, whose cell's word and effect are given, and gives how many rows are known then.
 fn read_letter(
     table: &[u8],
-    cells: &[u32],
     entries: &[u32],
+    word: u32,
+    effect: Effect,
     i: usize,
     a: usize,
-    key: u32,
     n: usize,
     capacity: usize,
     keys: &mut [u32],
@@ -36,22 +48,20 @@ fn read_letter(
     targets: &mut [u16],
     priorities: &mut [u8],
 ) -> usize
-    requires { ⌜ Taken (now table) × AllCells (tableOf (now table)) (now cells) × Entries (tableOf (now table)) (now entries) × (i < n) × (a < lettersOf (now table)) × (key ≡ getD (now keys) i 0) × Known (now table) capacity n (cell (lettersOf (now table)) i a) (now keys) (now heads) (now links) (now sources) (now records) (now targets) (now priorities) ⌝ }
+    requires { ⌜ Taken (now table) × Entries (tableOf (now table)) (now entries) × (i < n) × (a < lettersOf (now table)) × (word ≡ cellWord (tableOf (now table)) (sourceIn (getD (now keys) i 0)) a) × IsEffect (wordIn (getD (now keys) i 0)) effect × (effect .marks ≡ cellMarks word) × Known (now table) capacity n (cell (lettersOf (now table)) i a) (now keys) (now heads) (now links) (now sources) (now records) (now targets) (now priorities) ⌝ }
     ensures { λ r. ⌜ LetterSays (now (table .entry)) capacity n i a (now (keys .entry)) (now (keys .exit)) (now (heads .exit)) (now (links .exit)) (now (sources .entry)) (now (sources .exit)) (now (records .entry)) (now (records .exit)) (now (targets .entry)) (now (targets .exit)) (now (priorities .entry)) (now (priorities .exit)) r ⌝ }
 {
     let m = table[1] as usize;
-    let q = (key / SPAN) as usize;
-    let word = cells[q * m + a];
     let p = i * m + a;
     if is_missing(word) {
         targets[p] = NO_ROW;
         priorities[p] = 0;
         return n;
     }
-    let next = next_key(word, key, entries);
+    let next = next_key(word, effect.word, entries);
     let number = settle(next, n, capacity, keys, heads, links, sources, records);
     targets[p] = number as u16;
-    priorities[p] = priority_of(word, key);
+    priorities[p] = effect.priority;
     rows_after(n, number)
 }
 
@@ -76,16 +86,20 @@ fn read_row(
 {
     let m = table[1] as usize;
     let key = keys[i];
+    let first = (key / SPAN) as usize * m;
+    let mut effect = effect_of(marks_of(cells[first]), key);
     let mut known = n;
     let mut a = 0;
     while (a < m) & (known <= capacity) {
+        let word = cells[first + a];
+        effect = effect_after(marks_of(word), key, effect);
         known = read_letter(
             table,
-            cells,
             entries,
+            word,
+            effect,
             i,
             a,
-            key,
             known,
             capacity,
             keys,
@@ -101,8 +115,83 @@ fn read_row(
     known
 }
 
-// Reads all rows, from the start state's rising row on, and gives how many there are, or that there are more than the capacity.
-pub(crate) fn explore(
+// Reads all rows, from the start state's rising row on, and gives how many there are, or that there are more than the capacity. The
+// keys of the rows and their index go into arrays that are lent and empty.
+fn explore(
+    table: &[u8],
+    cells: &[u32],
+    entries: &[u32],
+    capacity: usize,
+    keys: &mut [u32],
+    heads: &mut [u16],
+    links: &mut [u16],
+    sources: &mut [u8],
+    records: &mut [u32],
+    targets: &mut [u16],
+    priorities: &mut [u8],
+) -> usize
+    requires { ⌜ Taken (now table) × AllCells (tableOf (now table)) (now cells) × Entries (tableOf (now table)) (now entries) × Room (now table) capacity (now targets) (now priorities) (now sources) (now records) × Empty capacity (now keys) (now heads) (now links) ⌝ }
+    ensures { λ r. ⌜ ExploreSays (now (table .entry)) capacity (now (sources .entry)) (now (sources .exit)) (now (records .entry)) (now (records .exit)) (now (targets .entry)) (now (targets .exit)) (now (priorities .entry)) (now (priorities .exit)) r ⌝ }
+{
+    let start = entries[table[3] as usize];
+    settle(start, 0, capacity, keys, heads, links, sources, records);
+    let mut known = 1;
+    let mut i = 0;
+    while (i < known) & (known <= capacity) {
+        known = read_row(
+            table,
+            cells,
+            entries,
+            i,
+            known,
+            capacity,
+            keys,
+            heads,
+            links,
+            sources,
+            records,
+            targets,
+            priorities,
+        );
+        i += 1;
+    }
+    known
+}
+
+// The same, with arrays of our own for few rows.
+fn explore_few(
+    table: &[u8],
+    cells: &[u32],
+    entries: &[u32],
+    capacity: usize,
+    sources: &mut [u8],
+    records: &mut [u32],
+    targets: &mut [u16],
+    priorities: &mut [u8],
+) -> usize
+    requires { ⌜ Taken (now table) × AllCells (tableOf (now table)) (now cells) × Entries (tableOf (now table)) (now entries) × Room (now table) capacity (now targets) (now priorities) (now sources) (now records) × (capacity ≤ fewRows) ⌝ }
+    ensures { λ r. ⌜ ExploreSays (now (table .entry)) capacity (now (sources .entry)) (now (sources .exit)) (now (records .entry)) (now (records .exit)) (now (targets .entry)) (now (targets .exit)) (now (priorities .entry)) (now (priorities .exit)) r ⌝ }
+{
+    let mut keys = [0; FEW_ROWS];
+    let mut heads = [0; FEW_SLOTS];
+    let mut links = [0; FEW_ROWS];
+    explore(
+        table,
+        cells,
+        entries,
+        capacity,
+        &mut keys,
+        &mut heads,
+        &mut links,
+        sources,
+        records,
+        targets,
+        priorities,
+    )
+}
+
+// The same, with arrays of our own for as many rows as there can be.
+fn explore_many(
     table: &[u8],
     cells: &[u32],
     entries: &[u32],
@@ -118,35 +207,114 @@ pub(crate) fn explore(
     let mut keys = [0; MAX_ROWS];
     let mut heads = [0; SLOTS];
     let mut links = [0; MAX_ROWS];
-    settle(
-        entries[table[3] as usize],
-        0,
+    explore(
+        table,
+        cells,
+        entries,
         capacity,
         &mut keys,
         &mut heads,
         &mut links,
         sources,
         records,
+        targets,
+        priorities,
+    )
+}
+
+// Ten states with three pairs have at most 60 rows. Nothing rests on this but the time that it takes.
+fn is_small(table: &[u8]) -> bool
+    requires { ⌜ Taken (now table) ⌝ }
+{
+    (table[0] <= 10) & (table[2] <= 3)
+}
+
+// The same for a table that looks small: the small arrays are tried first, whatever the capacity. Clearing the large ones would take
+// longer than reading all rows.
+fn explore_small(
+    table: &[u8],
+    cells: &[u32],
+    entries: &[u32],
+    capacity: usize,
+    sources: &mut [u8],
+    records: &mut [u32],
+    targets: &mut [u16],
+    priorities: &mut [u8],
+) -> usize
+    requires { ⌜ Taken (now table) × AllCells (tableOf (now table)) (now cells) × Entries (tableOf (now table)) (now entries) × Room (now table) capacity (now targets) (now priorities) (now sources) (now records) × (fewRows ≤ capacity) ⌝ }
+    ensures { λ r. ⌜ ExploreSays (now (table .entry)) capacity (now (sources .entry)) (now (sources .exit)) (now (records .entry)) (now (records .exit)) (now (targets .entry)) (now (targets .exit)) (now (priorities .entry)) (now (priorities .exit)) r ⌝ }
+{
+    let found = explore_few(
+        table,
+        cells,
+        entries,
+        FEW_ROWS,
+        sources,
+        records,
+        targets,
+        priorities,
     );
-    let mut known = 1;
-    let mut i = 0;
-    while (i < known) & (known <= capacity) {
-        known = read_row(
+    if found <= FEW_ROWS {
+        return found;
+    }
+    explore_many(
+        table,
+        cells,
+        entries,
+        capacity,
+        sources,
+        records,
+        targets,
+        priorities,
+    )
+}
+
+// The rows of a table.
+pub(crate) fn find_rows(
+    table: &[u8],
+    cells: &[u32],
+    entries: &[u32],
+    capacity: usize,
+    sources: &mut [u8],
+    records: &mut [u32],
+    targets: &mut [u16],
+    priorities: &mut [u8],
+) -> usize
+    requires { ⌜ Taken (now table) × AllCells (tableOf (now table)) (now cells) × Entries (tableOf (now table)) (now entries) × Room (now table) capacity (now targets) (now priorities) (now sources) (now records) ⌝ }
+    ensures { λ r. ⌜ ExploreSays (now (table .entry)) capacity (now (sources .entry)) (now (sources .exit)) (now (records .entry)) (now (records .exit)) (now (targets .entry)) (now (targets .exit)) (now (priorities .entry)) (now (priorities .exit)) r ⌝ }
+{
+    if capacity <= FEW_ROWS {
+        return explore_few(
             table,
             cells,
             entries,
-            i,
-            known,
             capacity,
-            &mut keys,
-            &mut heads,
-            &mut links,
             sources,
             records,
             targets,
             priorities,
         );
-        i += 1;
     }
-    known
+    if is_small(table) {
+        return explore_small(
+            table,
+            cells,
+            entries,
+            capacity,
+            sources,
+            records,
+            targets,
+            priorities,
+        );
+    }
+    explore_many(
+        table,
+        cells,
+        entries,
+        capacity,
+        sources,
+        records,
+        targets,
+        priorities,
+    )
 }

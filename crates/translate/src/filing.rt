@@ -8,7 +8,6 @@ ghost use mathlib.Core.Path.{_≡_};
 ghost use Prim.Native.Nat.{_*_, _<_, _≤_};
 ghost use lib.ListN.{length};
 ghost use Rattle.rules.specs.Limits.{maxRows};
-ghost use Rattle.translate.specs.Index.{slots};
 ghost use Rattle.translate.specs.Keys.{span};
 ghost use Rattle.translate.specs.Filing.{Filed, RowAdded, rowsAfter, Settles};
 
@@ -22,10 +21,10 @@ fn add_row(
     sources: &mut [u8],
     records: &mut [u32],
 )
-    requires { ⌜ (n < maxRows) × (n < length (now keys)) × (slots ≤ length (now heads)) × (n < length (now links)) × (n < length (now sources)) × (n < length (now records)) × (key < 256 * span) ⌝ }
+    requires { ⌜ (n < maxRows) × (n < length (now keys)) × (0 < length (now heads)) × (n < length (now links)) × (n < length (now sources)) × (n < length (now records)) × (key < 256 * span) ⌝ }
     ensures { λ _. ⌜ RowAdded key n (now (keys .entry)) (now (keys .exit)) (now (heads .entry)) (now (heads .exit)) (now (links .entry)) (now (links .exit)) (now (sources .entry)) (now (sources .exit)) (now (records .entry)) (now (records .exit)) ⌝ }
 {
-    let s = slot(key);
+    let s = slot(key, heads.len());
     keys[n] = key;
     links[n] = heads[s];
     heads[s] = (n + 1) as u16;

@@ -1,11 +1,8 @@
 // The index of keys: a chain of places for each slot, the latest first. Looking a key up costs the same however many there are.
 ghost use mathlib.Core.Path.{_≡_};
-ghost use Prim.Native.Nat.{_≤_};
+ghost use Prim.Native.Nat.{_<_, _≤_};
 ghost use lib.ListN.{length};
-ghost use Rattle.translate.specs.Index.{slots, slotOf, Indexed, Finds};
-
-// How many chains there are.
-pub(crate) const SLOTS: usize = 8192;
+ghost use Rattle.translate.specs.Index.{slotOf, Indexed, Finds};
 
 // The place of a key, or that it is absent.
 pub(crate) enum Found {
@@ -13,19 +10,21 @@ pub(crate) enum Found {
     Absent,
 }
 
-// The slot of a key, by the upper bits of its product with a large odd number.
-pub(crate) fn slot(key: u32) -> usize
-    ensures { λ r. ⌜ r ≡ slotOf key ⌝ }
+// The slot of a key, by the upper bits of its product with a large odd number. The slots are to be a power of two, or some stay empty.
+pub(crate) fn slot(key: u32, slots: usize) -> usize
+    requires { ⌜ 0 < slots ⌝ }
+    ensures { λ r. ⌜ r ≡ slotOf slots key ⌝ }
+    ensures { λ r. ⌜ r < slots ⌝ }
 {
-    ((key as u64 * 2654435769) % 4294967296 / 524288) as usize
+    (slots - 1) & (key as u64 * 2654435769 % 4294967296 / 524288) as usize
 }
 
 // Looks a key up among the first n.
 pub(crate) fn find_key(key: u32, n: usize, keys: &[u32], heads: &[u16], links: &[u16]) -> Found
-    requires { ⌜ Indexed n (now keys) (now heads) (now links) × (n ≤ length (now keys)) × (n ≤ length (now links)) × (slots ≤ length (now heads)) ⌝ }
+    requires { ⌜ Indexed (length (now heads)) n (now keys) (now heads) (now links) × (n ≤ length (now keys)) × (n ≤ length (now links)) × (0 < length (now heads)) ⌝ }
     ensures { λ r. ⌜ Finds n key (now (keys .entry)) r ⌝ }
 {
-    let mut at = heads[slot(key)];
+    let mut at = heads[slot(key, heads.len())];
     while at != 0 {
         let place = at as usize - 1;
         if keys[place] == key {

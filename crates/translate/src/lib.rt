@@ -9,6 +9,7 @@ use tables::survey_table;
 
 mod cells;
 mod clear;
+mod effects;
 mod explore;
 mod filing;
 mod index;
@@ -24,6 +25,7 @@ ghost use Rattle.tables.specs.Surveys.{insideLetters, countedPairs};
 ghost use Rattle.translate.specs.Exploring.{Room, ExploreSays, keptRows};
 
 // The refusal or 0, and the number of rows, 0 on a refusal.
+#[repr(C)]
 pub struct Translation {
     pub number: u8,
     pub rows: usize,
@@ -66,7 +68,7 @@ fn write_rows(
     let mut entries = [0; MAX_STATES as usize];
     cells::write_cells(table, inside, counted, &mut words);
     cells::write_entries(table, counted, &mut entries);
-    explore::explore(
+    explore::find_rows(
         table,
         &words,
         &entries,

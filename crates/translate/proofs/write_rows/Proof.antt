@@ -19,14 +19,14 @@ write-entries-requires : tie.Need-write-entries-requires
 write-entries-requires c κs =
     let s = c .before .before .before .before .before .before .before .before .before .before .before in (s .pre .0, s .pre .2, omega (arith, taken-table _ (s .pre .0)))
 
-slice-aggregate-explore : tie.Need-slice-aggregate-explore
-slice-aggregate-explore c = search needs
+slice-aggregate-find-rows : tie.Need-slice-aggregate-find-rows
+slice-aggregate-find-rows c = search needs
 
-slice-aggregate-explore-2 : tie.Need-slice-aggregate-explore-2
-slice-aggregate-explore-2 c = search needs
+slice-aggregate-find-rows-2 : tie.Need-slice-aggregate-find-rows-2
+slice-aggregate-find-rows-2 c = search needs
 
-explore-requires : tie.Need-explore-requires
-explore-requires c κs =
+find-rows-requires : tie.Need-find-rows-requires
+find-rows-requires c κs =
     let s = c .before .before .before .before .before .before .before .before .before .before .before .before .before .before .before .before .before .before .before in
     let w : tie.After-write-entries = c .before .before .before .before .before .before .before in
     let v : tie.After-write-cells = c .before .before .before .before .before .before .before .before .before .before in
@@ -45,7 +45,7 @@ same-length-4 : tie.Need-same-length-4
 same-length-4 c = search needs
 
 returns : tie.Need-returns
-returns c = c .before .before .before .before .before .before .before .before .explore .ensures
+returns c = c .before .before .before .before .before .before .before .before .find-rows .ensures
 
 pub write-rows-spec : {M : Type 1} → statement M
 write-rows-spec =
@@ -55,9 +55,9 @@ write-rows-spec =
     write-cells-requires
     slice-aggregate-write-entries
     write-entries-requires
-    slice-aggregate-explore
-    slice-aggregate-explore-2
-    explore-requires
+    slice-aggregate-find-rows
+    slice-aggregate-find-rows-2
+    find-rows-requires
     same-length
     same-length-2
     same-length-3

@@ -13,13 +13,13 @@ use Rattle.rules.specs.Systems.{cell}
 use Rattle.rules.specs.Tables.{tableOf}
 use Rattle.rules.proofs.Refusals.{TakenTable, taken-table}
 use Rattle.tables.proofs.Cells.{cell-within}
-use Rattle.translate.specs.Keys.{span, sourceIn, rowKey, keyRow, IsRow, IsKey}
-use Rattle.translate.specs.Cells.{crossingKind, targetIn, cellWord}
+use Rattle.translate.specs.Keys.{span, rowKey, keyRow, IsRow, IsKey}
+use Rattle.translate.specs.Cells.{crossingKind, targetIn}
 use Rattle.translate.specs.Exploring.{planIn, lettersOf}
 use Rattle.rules.specs.Rows.{Row, Step}
 use Rattle.translate.proofs.RowKeys.{row-is-key, key-below}
 use Rattle.translate.proofs.Settling.{number-most}
-use Rattle.translate.proofs.Letters.{key-missing, key-there, key-priority, key-next, letter-missing, letter-there}
+use Rattle.translate.proofs.Letters.{effect-small, key-missing, key-there, key-priority, key-next, letter-missing, letter-there}
 use Rattle.translate.proofs.explore.read_letter.Statement.{statement}
 use Rattle.translate.proofs.explore.read_letter.Tie as tie
 
@@ -35,40 +35,31 @@ module _ (c : tie.Start) where
   table = taken-table bytes (c .pre .0)
 
   code : IsKey (tableOf bytes) v
-  code = c .pre .6 .coded (c .args .i) (c .pre .3)
-
-  state : sourceIn (c .args .key) < tableOf bytes .states
-  state = subst⁻¹ (λ (x : ℕ). sourceIn x < tableOf bytes .states) (c .pre .5) (code .is-row .state)
-
-  in-cells : cell (lettersOf bytes) (sourceIn (c .args .key)) (c .args .a) < tableOf bytes .states * lettersOf bytes
-  in-cells = cell-within (tableOf bytes .states) (lettersOf bytes) (sourceIn (c .args .key)) (c .args .a) state (c .pre .4)
+  code = c .pre .7 .coded (c .args .i) (c .pre .2)
 
   in-rows : cell (lettersOf bytes) (c .args .i) (c .args .a) < c .args .capacity * lettersOf bytes
   in-rows =
-      cell-within (c .args .capacity) (lettersOf bytes) (c .args .i) (c .args .a) (omega (arith, c .pre .3, c .pre .6 .filed .few)) (c .pre .4)
+      cell-within (c .args .capacity) (lettersOf bytes) (c .args .i) (c .args .a) (omega (arith, c .pre .2, c .pre .7 .filed .few)) (c .pre .3)
 
   few-rows : c .args .capacity * lettersOf bytes ≤ maxRows * maxLetters
-  few-rows = mul-le-mul (c .pre .6 .filed .most) (table .sizes .most-letters)
-
-  abbrev word : ℕ
-  word = getD (c .args .cells .now) (cell (lettersOf bytes) (sourceIn (c .args .key)) (c .args .a)) 0
-
-  word-is : word ≡ cellWord (tableOf bytes) (sourceIn (c .args .key)) (c .args .a)
-  word-is = c .pre .1 .entry (sourceIn (c .args .key)) (c .args .a) (c .pre .4) in-cells
+  few-rows = mul-le-mul (c .pre .7 .filed .most) (table .sizes .most-letters)
 
 -- the transition is there
 module _ (c : tie.Else1) where
   abbrev s : tie.Start
-  s = c .before .before .before .before .before .before .before .before .before .before .before .before .before .before
+  s = c .before .before .before .before .before .before .before .before .before .before .before .before
 
   abbrev x : Step (Row (List ℕ))
   x = planIn (bytes s) .step (keyRow (v s)) (s .args .a)
 
-  present : ltb (word s) crossingKind ≡ false
+  present : ltb (s .args .word) crossingKind ≡ false
   present = sym (c .before .is-missing .ensures) ∙ c .if1 .left
 
-  there : (x .there ≡ true) × (targetIn (word s) < tableOf (bytes s) .states) × IsRow (tableOf (bytes s)) (x .to)
-  there = key-there (bytes s) (s .pre .0) (s .args .a) _ _ _ (s .pre .5) (code s) (word-is s) present
+  there : (x .there ≡ true) × (targetIn (s .args .word) < tableOf (bytes s) .states) × IsRow (tableOf (bytes s)) (x .to)
+  there = key-there (bytes s) (s .pre .0) (s .args .a) _ _ (code s) (s .pre .4) present
+
+  priority-is : s .args .effect .priority ≡ x .prio
+  priority-is = key-priority (bytes s) (s .pre .0) (s .args .a) _ _ (code s) (s .pre .4) _ (s .pre .5) (s .pre .6) present
 
 -- its target's key is worked out
 module _ (c : tie.After-next-key) where
@@ -76,7 +67,7 @@ module _ (c : tie.After-next-key) where
   o = c .before
 
   next-is : c .next-key .result ≡ rowKey (x o .to)
-  next-is = c .next-key .ensures ∙ key-next (bytes (s o)) (s o .pre .0) (s o .args .a) _ _ _ (s o .pre .5) (code (s o)) (word-is (s o)) (present o) (s o .args .entries .now) (s o .pre .2)
+  next-is = c .next-key .ensures ∙ key-next (bytes (s o)) (s o .pre .0) (s o .args .a) _ _ (code (s o)) (s o .pre .4) _ (s o .pre .5) (s o .pre .6) (present o) (s o .args .entries .now) (s o .pre .1)
 
   next-below : c .next-key .result < 256 * span
   next-below =
@@ -93,64 +84,31 @@ module _ (c : tie.After-slice-known12) where
   e = c .before .before .before .before .before .before .before .before .before .before
 
   number-few : e .settle .result ≤ s (o nk) .args .n
-  number-few = omega (arith, e .settle .ensures .number, number-most (s (o nk) .args .n) (nk .next-key .result) (s (o nk) .args .keys .now) (omega (arith, s (o nk) .pre .6 .filed .few, s (o nk) .pre .6 .filed .key-room)))
-
--- the priority is worked out
-priority-is : (c : tie.After-priority-of) → c .priority-of .result ≡ x (o (nk (c .before))) .prio
-priority-is c =
-    let l = o (nk (c .before)) in
-    let t = s l in
-    c .priority-of .ensures ∙ key-priority (bytes t) (t .pre .0) (t .args .a) _ _ _ (t .pre .5) (code t) (word-is t) (present l)
+  number-few = omega (arith, e .settle .ensures .number, number-most (s (o nk) .args .n) (nk .next-key .result) (s (o nk) .args .keys .now) (omega (arith, s (o nk) .pre .7 .filed .few, s (o nk) .pre .7 .filed .key-room)))
 
 shared-slice-read-m : tie.Need-shared-slice-read-m
-shared-slice-read-m c =
-    let s = c .before .before .before .before .before .before .before .before .before .before .before in omega (arith, table s)
+shared-slice-read-m c = let s = c .before .before .before .before .before .before .before .before .before .before in omega (arith, table s)
 
 cast-m : tie.Need-cast-m
-cast-m c =
-    let s = c .before .before .before .before .before .before .before .before .before .before .before in omega (arith, table s)
-
-cast-q : tie.Need-cast-q
-cast-q c = search needs
-
-mul-word : tie.Need-mul-word
-mul-word c =
-    let s = c .before .before .before .before .before .before .before .before .before .before .before in omega (arith, table s, in-cells s)
-
-add-word : tie.Need-add-word
-add-word c =
-    let s = c .before .before .before .before .before .before .before .before .before .before .before in omega (arith, table s, in-cells s)
-
-mul-word-2 : tie.Need-mul-word-2
-mul-word-2 c =
-    let s = c .before .before .before .before .before .before .before .before .before .before .before in omega (arith, table s, in-cells s)
-
-shared-slice-read-word : tie.Need-shared-slice-read-word
-shared-slice-read-word c =
-    let s = c .before .before .before .before .before .before .before .before .before .before .before .before in omega (arith, in-cells s, s .pre .1 .enough)
+cast-m c = let s = c .before .before .before .before .before .before .before .before .before .before in omega (arith, table s)
 
 mul-p : tie.Need-mul-p
-mul-p c =
-    let s = c .before .before .before .before .before .before .before .before .before .before .before .before in omega (arith, in-rows s, few-rows s)
+mul-p c = let s = c .before .before .before .before .before .before .before .before .before .before in omega (arith, in-rows s, few-rows s)
 
 add-p : tie.Need-add-p
-add-p c =
-    let s = c .before .before .before .before .before .before .before .before .before .before .before .before in omega (arith, in-rows s, few-rows s)
+add-p c = let s = c .before .before .before .before .before .before .before .before .before .before in omega (arith, in-rows s, few-rows s)
 
 is-missing-requires : tie.Need-is-missing-requires
 is-missing-requires c κs = search needs
 
 mul-targets : tie.Need-mul-targets
-mul-targets c =
-    let s = c .before .before .before .before .before .before .before .before .before .before .before .before .before .before in omega (arith, in-rows s, few-rows s)
+mul-targets c = let s = c .before .before .before .before .before .before .before .before .before .before .before .before in omega (arith, in-rows s, few-rows s)
 
 slice-write-targets : tie.Need-slice-write-targets
-slice-write-targets c =
-    let s = c .before .before .before .before .before .before .before .before .before .before .before .before .before .before in omega (arith, in-rows s, s .pre .6 .target-room)
+slice-write-targets c = let s = c .before .before .before .before .before .before .before .before .before .before .before .before in omega (arith, in-rows s, s .pre .7 .target-room)
 
 slice-write-priorities : tie.Need-slice-write-priorities
-slice-write-priorities c =
-    let s = c .before .before .before .before .before .before .before .before .before .before .before .before .before .before in omega (arith, in-rows s, s .pre .6 .priority-room)
+slice-write-priorities c = let s = c .before .before .before .before .before .before .before .before .before .before .before .before in omega (arith, in-rows s, s .pre .7 .priority-room)
 
 same-length : tie.Need-same-length
 same-length c = simp length-set
@@ -160,54 +118,45 @@ same-length-2 c = simp length-set
 
 returns : tie.Need-returns
 returns c =
-    let s = c .before .before .before .before .before .before .before .before .before .before .before .before .before .before in
-    let gone = key-missing (bytes s) (s .pre .0) (s .args .a) _ _ _ (s .pre .5) (code s) (word-is s) (sym (c .before .is-missing .ensures) ∙ c .if1 .taken) in
-    letter-missing (bytes s) (s .pre .0) _ _ _ _ _ _ _ _ _ _ _ (s .pre .3) (s .pre .4) (s .pre .6) (gone .0) (gone .1)
+    let s = c .before .before .before .before .before .before .before .before .before .before .before .before in
+    let gone = key-missing (bytes s) (s .pre .0) (s .args .a) _ _ (code s) (s .pre .4) (sym (c .before .is-missing .ensures) ∙ c .if1 .taken) in
+    letter-missing (bytes s) (s .pre .0) _ _ _ _ _ _ _ _ _ _ _ (s .pre .2) (s .pre .3) (s .pre .7) (gone .0) (gone .1)
 
 next-key-requires : tie.Need-next-key-requires
-next-key-requires c κs = omega (arith, there c .1, s c .pre .2 .enough)
+next-key-requires c κs = (omega (arith, there c .1, s c .pre .1 .enough), effect-small _ _ (s c .pre .5))
 
 settle-requires : tie.Need-settle-requires
-settle-requires c κs =
-    (c .before .before .before .before .before .before .before .before .before .before .before .before .before .before .before .before .before .before .before .before .pre .6 .filed, next-below (c .before .before .before .before .before))
+settle-requires c κs = (c .before .before .before .before .before .before .before .before .before .before .before .before .before .before .before .before .before .before .pre .7 .filed, next-below (c .before .before .before .before .before))
 
 cast-targets : tie.Need-cast-targets
-cast-targets c =
-    let s = c .before .before .before .before .before .before .before .before .before .before .before .before .before .before .before .before .before .before .before .before .before .before .before .before .before .before .before .before .before .before .before in omega (arith, number-few c, s .pre .6 .filed .few, s .pre .6 .filed .most)
+cast-targets c = let s = c .before .before .before .before .before .before .before .before .before .before .before .before .before .before .before .before .before .before .before .before .before .before .before .before .before .before .before .before .before in omega (arith, number-few c, s .pre .7 .filed .few, s .pre .7 .filed .most)
 
 mul-targets-2 : tie.Need-mul-targets-2
-mul-targets-2 c =
-    let s = c .before .before .before .before .before .before .before .before .before .before .before .before .before .before .before .before .before .before .before .before .before .before .before .before .before .before .before .before .before .before .before in omega (arith, in-rows s, few-rows s)
+mul-targets-2 c = let s = c .before .before .before .before .before .before .before .before .before .before .before .before .before .before .before .before .before .before .before .before .before .before .before .before .before .before .before .before .before in omega (arith, in-rows s, few-rows s)
 
 slice-write-targets-2 : tie.Need-slice-write-targets-2
-slice-write-targets-2 c =
-    let s = c .before .before .before .before .before .before .before .before .before .before .before .before .before .before .before .before .before .before .before .before .before .before .before .before .before .before .before .before .before .before .before in omega (arith, in-rows s, s .pre .6 .target-room)
-
-priority-of-requires : tie.Need-priority-of-requires
-priority-of-requires c κs = search needs
+slice-write-targets-2 c = let s = c .before .before .before .before .before .before .before .before .before .before .before .before .before .before .before .before .before .before .before .before .before .before .before .before .before .before .before .before .before in omega (arith, in-rows s, s .pre .7 .target-room)
 
 slice-write-priorities-2 : tie.Need-slice-write-priorities-2
-slice-write-priorities-2 c =
-    let s = c .before .before .before .before .before .before .before .before .before .before .before .before .before .before .before .before .before .before .before .before .before .before .before .before .before .before .before .before .before .before .before .before in omega (arith, in-rows s, s .pre .6 .priority-room)
+slice-write-priorities-2 c = let s = c .before .before .before .before .before .before .before .before .before .before .before .before .before .before .before .before .before .before .before .before .before .before .before .before .before .before .before .before .before in omega (arith, in-rows s, s .pre .7 .priority-room)
 
 rows-after-requires : tie.Need-rows-after-requires
-rows-after-requires c κs =
-    let s = c .before .before .before .before .before .before .before .before .before .before .before .before .before .before .before .before .before .before .before .before .before .before .before .before .before .before .before .before .before .before .before .before in omega (arith, s .pre .6 .filed .few, s .pre .6 .filed .most)
+rows-after-requires c κs = let s = c .before .before .before .before .before .before .before .before .before .before .before .before .before .before .before .before .before .before .before .before .before .before .before .before .before .before .before .before .before in omega (arith, s .pre .7 .filed .few, s .pre .7 .filed .most)
 
 same-length-3 : tie.Need-same-length-3
-same-length-3 c = e (c .before .before) .settle .kept .1 .1 .1 .0
+same-length-3 c = e (c .before) .settle .kept .1 .1 .1 .0
 
 same-length-4 : tie.Need-same-length-4
-same-length-4 c = e (c .before .before) .settle .kept .1 .1 .1 .1 .0
+same-length-4 c = e (c .before) .settle .kept .1 .1 .1 .1 .0
 
 same-length-5 : tie.Need-same-length-5
-same-length-5 c = e (c .before .before) .settle .kept .1 .1 .1 .1 .1 .0
+same-length-5 c = e (c .before) .settle .kept .1 .1 .1 .1 .1 .0
 
 same-length-6 : tie.Need-same-length-6
-same-length-6 c = e (c .before .before) .settle .kept .1 .1 .1 .1 .1 .1 .0
+same-length-6 c = e (c .before) .settle .kept .1 .1 .1 .1 .1 .1 .0
 
 same-length-7 : tie.Need-same-length-7
-same-length-7 c = e (c .before .before) .settle .kept .1 .1 .1 .1 .1 .1 .1 .0
+same-length-7 c = e (c .before) .settle .kept .1 .1 .1 .1 .1 .1 .1 .0
 
 same-length-8 : tie.Need-same-length-8
 same-length-8 c = simp length-set
@@ -217,10 +166,10 @@ same-length-9 c = simp length-set
 
 returns-2 : tie.Need-returns-2
 returns-2 c =
-    let k = c .before .before in
+    let k = c .before in
     let n = nk k in
     let t = s (o n) in
-    letter-there (bytes t) (t .pre .0) _ _ _ _ _ _ _ _ _ _ _ (t .pre .3) (t .pre .4) (t .pre .6) _ _ _ _ _ _ _ _ (e k .settle .ensures) (there (o n) .0) (there (o n) .2) (next-is n) (priority-is (c .before)) _ (c .rows-after .ensures)
+    letter-there (bytes t) (t .pre .0) _ _ _ _ _ _ _ _ _ _ _ (t .pre .2) (t .pre .3) (t .pre .7) _ _ _ _ _ _ _ _ (e k .settle .ensures) (there (o n) .0) (there (o n) .2) (next-is n) (priority-is (o n)) _ (c .rows-after .ensures)
 
 pub read-letter-spec : {M : Type 1} → statement M
 read-letter-spec =
@@ -228,11 +177,6 @@ read-letter-spec =
     (tie.spec
     shared-slice-read-m
     cast-m
-    cast-q
-    mul-word
-    add-word
-    mul-word-2
-    shared-slice-read-word
     mul-p
     add-p
     is-missing-requires
@@ -247,7 +191,6 @@ read-letter-spec =
     cast-targets
     mul-targets-2
     slice-write-targets-2
-    priority-of-requires
     slice-write-priorities-2
     rows-after-requires
     same-length-3

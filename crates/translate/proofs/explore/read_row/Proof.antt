@@ -1,74 +1,140 @@
--- `translate::explore::read_row` meets its contract. The invariant: the row is read by the letters below a.
-use mathlib.Core.Path.{_≡_, refl, sym, _∙_}
-use Prim.Native.Nat.{_-_, _<_, _≤_}
+-- `translate::explore::read_row` meets its contract. The invariant: the row is read by the letters below a, and `effect` is what some marks do to
+-- its record.
+use mathlib.Core.Path.{_≡_, refl, _∙_, subst⁻¹}
+use mathlib.Core.List.{List}
+use Prim.Native.Nat.{ℕ, _-_, _*_, _<_, _≤_}
 use native.Mathlib.Omega.{arith}
+use borrow.Author.Needs.{needs}
 use borrow.Author.Tests.{ltb-true, leb-true}
 use lib.Dec.{ltb, leb}
-use lib.ListN.{length}
+use lib.ListN.{length, getD}
+use Rattle.rules.specs.Systems.{cell}
+use Rattle.rules.specs.Tables.{tableOf}
 use Rattle.rules.proofs.Bools.{and-parts}
-use Rattle.rules.proofs.Refusals.{taken-table}
+use Rattle.rules.proofs.Refusals.{TakenTable, taken-table}
+use Rattle.tables.proofs.Cells.{cell-within}
+use Rattle.translate.specs.Keys.{sourceIn, wordIn, IsKey}
+use Rattle.translate.specs.Cells.{cellWord}
+use Rattle.translate.specs.Effects.{IsEffect}
 use Rattle.translate.specs.Exploring.{lettersOf}
 use Rattle.translate.proofs.Rounds.{RowPart, row-begun, row-next, row-done}
 use Rattle.translate.proofs.explore.read_row.Statement.{statement}
 use Rattle.translate.proofs.explore.read_row.Tie as tie
 
 abbrev Inv-loop : tie.InvT-loop
-Inv-loop table cells entries i n capacity keys₀ heads₀ links₀ sources₀ records₀ targets₀ priorities₀ m key known₀ a₀ keys heads links sources records targets priorities known a =
+Inv-loop table cells entries i n capacity keys₀ heads₀ links₀ sources₀ records₀ targets₀ priorities₀ m key first effect₀ known₀ a₀ keys heads links sources records targets priorities effect known a =
     RowPart table capacity n i a keys₀ keys heads links sources₀ sources records₀ records targets₀ targets priorities₀ priorities known
-    × (length keys ≡ length keys₀) × (length heads ≡ length heads₀) × (length links ≡ length links₀)
+    × (length keys ≡ length keys₀) × (length heads ≡ length heads₀) × (length links ≡ length links₀) × IsEffect (wordIn key) effect
 
 abbrev μ-loop : tie.MeasureT-loop
-μ-loop table cells entries i n capacity keys₀ heads₀ links₀ sources₀ records₀ targets₀ priorities₀ m key known₀ a₀ keys heads links sources records targets priorities known a = m - a
+μ-loop table cells entries i n capacity keys₀ heads₀ links₀ sources₀ records₀ targets₀ priorities₀ m key first effect₀ known₀ a₀ keys heads links sources records targets priorities effect known a = m - a
+
+-- what holds at the entry
+module _ (c : tie.Start Inv-loop μ-loop) where
+  abbrev bytes : List ℕ
+  bytes = c .args .table .now
+
+  abbrev v : ℕ
+  v = getD (c .args .keys .now) (c .args .i) 0
+
+  table : TakenTable bytes
+  table = taken-table bytes (c .pre .0)
+
+  code : IsKey (tableOf bytes) v
+  code = c .pre .4 .coded (c .args .i) (c .pre .3)
+
+  in-cells : (a : ℕ) → a < lettersOf bytes → cell (lettersOf bytes) (sourceIn v) a < tableOf bytes .states * lettersOf bytes
+  in-cells a l = cell-within (tableOf bytes .states) (lettersOf bytes) (sourceIn v) a (code .is-row .state) l
+
+  first-cell : sourceIn v * lettersOf bytes < tableOf bytes .states * lettersOf bytes
+  first-cell = omega (arith, in-cells 0 (table .sizes .some-letters))
 
 -- a letter is left, and there is room
-tests : (c : tie.In-loop Inv-loop μ-loop)
-    → let s = c .before .before .before .before .before .before .before .before .before .before .before .before .before .before in (c .before .loop .a < lettersOf (s .args .table .now)) × (c .before .loop .known ≤ s .args .capacity)
-tests c =
-    let s = c .before .before .before .before .before .before .before .before .before .before .before .before .before .before in
-    let r = and-parts (ltb (c .before .loop .a) (lettersOf (s .args .table .now))) (leb (c .before .loop .known) (s .args .capacity)) (c .loop-test .taken) in
-    (ltb-true _ _ (r .0), leb-true _ _ (r .1))
+module _ (c : tie.In-loop Inv-loop μ-loop) where
+  abbrev s : tie.Start Inv-loop μ-loop
+  s = c .before .before .before .before .before .before .before .before .before .before .before .before .before .before .before .before .before
+
+  tests : (c .before .loop .a < lettersOf (bytes s)) × (c .before .loop .known ≤ s .args .capacity)
+  tests =
+      let r = and-parts (ltb (c .before .loop .a) (lettersOf (bytes s))) (leb (c .before .loop .known) (s .args .capacity)) (c .loop-test .taken) in
+      (ltb-true _ _ (r .0), leb-true _ _ (r .1))
+
+  here : cell (lettersOf (bytes s)) (sourceIn (v s)) (c .before .loop .a) < tableOf (bytes s) .states * lettersOf (bytes s)
+  here = in-cells s (c .before .loop .a) (tests .0)
 
 shared-slice-read-m : tie.Need-shared-slice-read-m Inv-loop μ-loop
-shared-slice-read-m c =
-    omega (arith, taken-table _ (c .before .before .before .before .before .before .before .before .before .before .before .pre .0))
+shared-slice-read-m c = omega (arith, table (c .before .before .before .before .before .before .before .before .before .before .before))
 
 cast-m : tie.Need-cast-m Inv-loop μ-loop
-cast-m c =
-    omega (arith, taken-table _ (c .before .before .before .before .before .before .before .before .before .before .before .pre .0))
+cast-m c = omega (arith, table (c .before .before .before .before .before .before .before .before .before .before .before))
 
 mul-key : tie.Need-mul-key Inv-loop μ-loop
-mul-key c =
-    omega (arith, c .before .before .before .before .before .before .before .before .before .before .before .pre .4 .filed .few, c .before .before .before .before .before .before .before .before .before .before .before .pre .4 .filed .most)
+mul-key c = let s = c .before .before .before .before .before .before .before .before .before .before .before in omega (arith, s .pre .4 .filed .few, s .pre .4 .filed .most)
 
 slice-read-key : tie.Need-slice-read-key Inv-loop μ-loop
-slice-read-key c =
-    omega (arith, c .before .before .before .before .before .before .before .before .before .before .before .before .pre .4 .filed .few, c .before .before .before .before .before .before .before .before .before .before .before .before .pre .4 .filed .key-room)
+slice-read-key c = let s = c .before .before .before .before .before .before .before .before .before .before .before .before in omega (arith, s .pre .4 .filed .few, s .pre .4 .filed .key-room)
+
+cast-first : tie.Need-cast-first Inv-loop μ-loop
+cast-first c = let s = c .before .before .before .before .before .before .before .before .before .before .before .before in omega (arith, table s, code s .is-row .state)
+
+mul-first : tie.Need-mul-first Inv-loop μ-loop
+mul-first c = let s = c .before .before .before .before .before .before .before .before .before .before .before .before in omega (arith, table s, first-cell s)
+
+mul-marks-of : tie.Need-mul-marks-of Inv-loop μ-loop
+mul-marks-of c = let s = c .before .before .before .before .before .before .before .before .before .before .before .before in omega (arith, table s, first-cell s)
+
+shared-slice-read-marks-of : tie.Need-shared-slice-read-marks-of Inv-loop μ-loop
+shared-slice-read-marks-of c = let s = c .before .before .before .before .before .before .before .before .before .before .before .before .before in omega (arith, first-cell s, s .pre .1 .enough)
+
+marks-of-requires : tie.Need-marks-of-requires Inv-loop μ-loop
+marks-of-requires c κs = search needs
+
+effect-of-requires : tie.Need-effect-of-requires Inv-loop μ-loop
+effect-of-requires c κs = search needs
 
 loop-holds : tie.Need-loop-holds Inv-loop μ-loop
 loop-holds c =
-    (row-begun _ _ _ _ _ _ _ _ _ _ _ (c .before .before .before .before .before .before .before .before .before .before .before .before .pre .4), refl, refl, refl)
+    (row-begun _ _ _ _ _ _ _ _ _ _ _ (c .before .before .before .before .before .before .before .before .before .before .before .before .before .before .before .pre .4), refl, refl, refl, c .effect-of .ensures .0)
+
+add-word : tie.Need-add-word Inv-loop μ-loop
+add-word c = omega (arith, table (s c), here c)
+
+mul-word : tie.Need-mul-word Inv-loop μ-loop
+mul-word c = omega (arith, table (s c), here c)
+
+shared-slice-read-word : tie.Need-shared-slice-read-word Inv-loop μ-loop
+shared-slice-read-word c = omega (arith, here (c .before), s (c .before) .pre .1 .enough)
+
+marks-of-requires-2 : tie.Need-marks-of-requires-2 Inv-loop μ-loop
+marks-of-requires-2 c κs = search needs
+
+effect-after-requires : tie.Need-effect-after-requires Inv-loop μ-loop
+effect-after-requires c κs = c .before .before .before .loop .inv .4
 
 read-letter-requires : tie.Need-read-letter-requires Inv-loop μ-loop
 read-letter-requires c κs =
-    let turn : tie.In-loop Inv-loop μ-loop = c .before .before .before .before .before .before .before in
-    let s : tie.Start Inv-loop μ-loop = c .before .before .before .before .before .before .before .before .before .before .before .before .before .before .before .before .before .before .before .before .before in
+    let e : tie.After-effect-after Inv-loop μ-loop = c .before .before .before .before .before .before .before in
+    let turn : tie.In-loop Inv-loop μ-loop = c .before .before .before .before .before .before .before .before .before .before in
+    let t = s turn in
     let f = turn .before .loop .inv .0 in
-    (s .pre .0, s .pre .1, s .pre .2, omega (arith, s .pre .3, f .longer), tests turn .0, sym (f .front (tests turn .1)), f .known (tests turn .1))
+    let same = f .front (tests turn .1) in
+    (t .pre .0, t .pre .2, omega (arith, t .pre .3, f .longer), tests turn .0, subst⁻¹ (λ (x : ℕ). getD (t .args .cells .now) (cell (lettersOf (bytes t)) (sourceIn (v t)) (turn .before .loop .a)) 0 ≡ cellWord (tableOf (bytes t)) (sourceIn x) (turn .before .loop .a)) same (t .pre .1 .entry (sourceIn (v t)) (turn .before .loop .a) (tests turn .0) (here turn)), subst⁻¹ (λ (x : ℕ). IsEffect (wordIn x) (e .effect-after .result)) same (e .effect-after .ensures .0), e .effect-after .ensures .1 ∙ e .before .marks-of2 .ensures, f .known (tests turn .1))
 
 add-a : tie.Need-add-a Inv-loop μ-loop
 add-a c =
-    let turn : tie.In-loop Inv-loop μ-loop = c .before .before .before .before .before .before .before .before .before .before .before .before .before .before .before .before .before .before .before .before .before .before in omega (arith, tests turn .0, taken-table _ (c .before .before .before .before .before .before .before .before .before .before .before .before .before .before .before .before .before .before .before .before .before .before .before .before .before .before .before .before .before .before .before .before .before .before .before .before .pre .0))
+    let turn : tie.In-loop Inv-loop μ-loop = c .before .before .before .before .before .before .before .before .before .before .before .before .before .before .before .before .before .before .before .before .before .before .before .before .before in omega (arith, tests turn .0, table (s turn))
 
 loop-less : tie.Need-loop-less Inv-loop μ-loop
 loop-less c =
-    let turn : tie.In-loop Inv-loop μ-loop = c .before .before .before .before .before .before .before .before .before .before .before .before .before .before .before .before .before .before .before .before .before .before in omega (arith, tests turn .0)
+    let turn : tie.In-loop Inv-loop μ-loop = c .before .before .before .before .before .before .before .before .before .before .before .before .before .before .before .before .before .before .before .before .before .before .before .before .before in omega (arith, tests turn .0)
 
 loop-again : tie.Need-loop-again Inv-loop μ-loop
 loop-again c =
-    let turn : tie.In-loop Inv-loop μ-loop = c .before .before .before .before .before .before .before .before .before .before .before .before .before .before .before .before .before .before .before .before .before .before in
+    let turn : tie.In-loop Inv-loop μ-loop = c .before .before .before .before .before .before .before .before .before .before .before .before .before .before .before .before .before .before .before .before .before .before .before .before .before in
     let call : tie.After-read-letter Inv-loop μ-loop = c .before .before .before .before .before .before .before .before .before .before .before .before .before .before in
+    let e : tie.After-effect-after Inv-loop μ-loop = c .before .before .before .before .before .before .before .before .before .before .before .before .before .before .before .before .before .before .before .before .before .before in
     let f = turn .before .loop .inv in
-    (row-next _ _ _ _ _ _ _ _ _ _ _ _ _ _ _ _ _ _ _ _ _ _ _ _ _ _ (c .before .before .before .before .before .before .before .before .before .before .before .before .before .before .before .before .before .before .before .before .before .before .before .before .before .before .before .before .before .before .before .before .before .before .before .before .pre .3) (tests turn .0) (tests turn .1) (f .0) (call .read-letter .ensures), call .read-letter .kept .1 .1 .1 .1 .1 .1 .1 .1 .0 ∙ f .1, call .read-letter .kept .1 .1 .1 .1 .1 .1 .1 .1 .1 .0 ∙ f .2, call .read-letter .kept .1 .1 .1 .1 .1 .1 .1 .1 .1 .1 .0 ∙ f .3)
+    (row-next _ _ _ _ _ _ _ _ _ _ _ _ _ _ _ _ _ _ _ _ _ _ _ _ _ _ (s turn .pre .3) (tests turn .0) (tests turn .1) (f .0) (call .read-letter .ensures), call .read-letter .kept .1 .1 .1 .1 .1 .1 .1 .1 .0 ∙ f .1, call .read-letter .kept .1 .1 .1 .1 .1 .1 .1 .1 .1 .0 ∙ f .2, call .read-letter .kept .1 .1 .1 .1 .1 .1 .1 .1 .1 .1 .0 ∙ f .3, e .effect-after .ensures .0)
 
 same-length : tie.Need-same-length Inv-loop μ-loop
 same-length c = c .before .loop .inv .1
@@ -105,7 +171,18 @@ read-row-spec =
     cast-m
     mul-key
     slice-read-key
+    cast-first
+    mul-first
+    mul-marks-of
+    shared-slice-read-marks-of
+    marks-of-requires
+    effect-of-requires
     loop-holds
+    add-word
+    mul-word
+    shared-slice-read-word
+    marks-of-requires-2
+    effect-after-requires
     read-letter-requires
     add-a
     loop-less

@@ -70,7 +70,7 @@ same-length-5 c = search needs
 
 returns : tie.Need-returns
 returns c =
-    let s = c .before .before .slot .ensures in
+    let s = c .before .before .slot .ensures .0 in
     record { key-array = refl; head-array = rw (s, add-one); link-array = rw s; state-array = refl; number-array = rw (c .number .ensures) }
 
 pub add-row-spec : {M : Type 1} → statement M
