@@ -128,12 +128,12 @@ fn with_pair(word: u32, pair: PairNumber, goes: bool) -> u32
     if goes { pair.0 as u32 + 8 * word } else { word }
 }
 
-// The unit of the place behind, where one place more is taken.
+// The unit of the place behind, where one place more is taken. It has no branch: which pairs go is hard to foresee.
 fn widened(unit: u32, goes: bool) -> u32
     requires { ⌜ unit ≤ 32768 ⌝ }
     ensures { λ r. ⌜ r ≡ pick goes (base * unit) unit ⌝ }
 {
-    if goes { 8 * unit } else { unit }
+    unit << (3 * goes as u32)
 }
 
 // The later of two positions, where the second is hit.

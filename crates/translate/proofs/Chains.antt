@@ -17,7 +17,7 @@ use Rattle.rules.proofs.Bools.{by}
 use Rattle.translate.specs.Index.{slotOf, nearest, Indexed}
 
 pub slot-below : (slots key : ℕ) → 0 < slots → slotOf slots key < slots
-slot-below slots key some = omega (arith, and-le-l (slots - 1) (key * 2654435769 % 4294967296 / 524288))
+slot-below slots key some = omega (arith, and-le-l (slots - 1) (key * 2246822507 % 4294967296 / 262144))
 
 module _ (slots : ℕ) where
   nearest-within : (keys : List ℕ) (s n : ℕ) → nearest slots keys s n ≤ n

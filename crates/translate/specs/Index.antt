@@ -17,7 +17,7 @@ use Rattle.translate.specs.declared.index.Found.{Found}
 use Rattle.translate.specs.declared.index.Found.the-variants.{At, Absent}
 
 abbrev pub slotOf : ℕ → ℕ → ℕ
-slotOf slots key = bitAnd (slots - 1) (key * 2654435769 % 4294967296 / 524288)
+slotOf slots key = bitAnd (slots - 1) (key * 2246822507 % 4294967296 / 262144)
 
 abbrev pub nearest : ℕ → List ℕ → ℕ → ℕ → ℕ
 nearest slots keys s zero = 0

@@ -43,8 +43,19 @@ fn moved_word(word: u32, pairs: u8) -> u32
     order.moved(pairs).word
 }
 
+// The effect of no marks on the record of a key.
+pub(crate) fn no_effect(key: u32) -> Effect
+    ensures { λ r. ⌜ IsEffect (wordIn key) r ⌝ }
+{
+    Effect {
+        marks: 0,
+        word: key % SPAN,
+        priority: 1,
+    }
+}
+
 // The effect of marks on the record of a key.
-pub(crate) fn effect_of(marks: u32, key: u32) -> Effect
+fn effect_of(marks: u32, key: u32) -> Effect
     ensures { λ r. ⌜ IsEffect (wordIn key) r × (r .marks ≡ marks) ⌝ }
 {
     let order = Record { word: key % SPAN };

@@ -5,7 +5,7 @@ use crate::cells::marks_of;
 use crate::cells::next_key;
 use crate::effects::Effect;
 use crate::effects::effect_after;
-use crate::effects::effect_of;
+use crate::effects::no_effect;
 use crate::filing::rows_after;
 use crate::filing::settle;
 use crate::keys::SPAN;
@@ -28,7 +28,7 @@ const FEW_ROWS: usize = 64;
 const FEW_SLOTS: usize = 128;
 
 // The slots of the index of many rows.
-const SLOTS: usize = 8192;
+const SLOTS: usize = 16384;
 
 // Reads row i by the letter a, whose cell's word and effect are given, and gives how many rows are known then.
 fn read_letter(
@@ -87,7 +87,7 @@ fn read_row(
     let m = table[1] as usize;
     let key = keys[i];
     let first = (key / SPAN) as usize * m;
-    let mut effect = effect_of(marks_of(cells[first]), key);
+    let mut effect = no_effect(key);
     let mut known = n;
     let mut a = 0;
     while (a < m) & (known <= capacity) {

@@ -16,7 +16,7 @@ pub(crate) fn slot(key: u32, slots: usize) -> usize
     ensures { λ r. ⌜ r ≡ slotOf slots key ⌝ }
     ensures { λ r. ⌜ r < slots ⌝ }
 {
-    (slots - 1) & (key as u64 * 2654435769 % 4294967296 / 524288) as usize
+    (slots - 1) & (key as u64 * 2246822507 % 4294967296 / 262144) as usize
 }
 
 // Looks a key up among the first n.

@@ -18,7 +18,7 @@ explore-requires : tie.Need-explore-requires
 explore-requires c κs =
     let s = c .before .before .before .before .before .before .before .before .before .before .before .before .before .before in
     let room = s .pre .3 .most-rows in
-    (s .pre .0, s .pre .1, s .pre .2, s .pre .3, record { key-room = room; some-slots = omega arith; link-room = room; no-heads = zeros-at 8192 })
+    (s .pre .0, s .pre .1, s .pre .2, s .pre .3, record { key-room = room; some-slots = omega arith; link-room = room; no-heads = zeros-at 16384 })
 
 same-length : tie.Need-same-length
 same-length c = search needs

@@ -52,7 +52,7 @@ module _ (c : tie.Start Inv-loop μ-loop) where
 -- a letter is left, and there is room
 module _ (c : tie.In-loop Inv-loop μ-loop) where
   abbrev s : tie.Start Inv-loop μ-loop
-  s = c .before .before .before .before .before .before .before .before .before .before .before .before .before .before .before .before .before
+  s = c .before .before .before .before .before .before .before .before .before .before .before .before .before .before .before
 
   tests : (c .before .loop .a < lettersOf (bytes s)) × (c .before .loop .known ≤ s .args .capacity)
   tests =
@@ -80,21 +80,12 @@ cast-first c = let s = c .before .before .before .before .before .before .before
 mul-first : tie.Need-mul-first Inv-loop μ-loop
 mul-first c = let s = c .before .before .before .before .before .before .before .before .before .before .before .before in omega (arith, table s, first-cell s)
 
-mul-marks-of : tie.Need-mul-marks-of Inv-loop μ-loop
-mul-marks-of c = let s = c .before .before .before .before .before .before .before .before .before .before .before .before in omega (arith, table s, first-cell s)
-
-shared-slice-read-marks-of : tie.Need-shared-slice-read-marks-of Inv-loop μ-loop
-shared-slice-read-marks-of c = let s = c .before .before .before .before .before .before .before .before .before .before .before .before .before in omega (arith, first-cell s, s .pre .1 .enough)
-
-marks-of-requires : tie.Need-marks-of-requires Inv-loop μ-loop
-marks-of-requires c κs = search needs
-
-effect-of-requires : tie.Need-effect-of-requires Inv-loop μ-loop
-effect-of-requires c κs = search needs
+no-effect-requires : tie.Need-no-effect-requires Inv-loop μ-loop
+no-effect-requires c κs = search needs
 
 loop-holds : tie.Need-loop-holds Inv-loop μ-loop
 loop-holds c =
-    (row-begun _ _ _ _ _ _ _ _ _ _ _ (c .before .before .before .before .before .before .before .before .before .before .before .before .before .before .before .pre .4), refl, refl, refl, c .effect-of .ensures .0)
+    (row-begun _ _ _ _ _ _ _ _ _ _ _ (c .before .before .before .before .before .before .before .before .before .before .before .before .before .pre .4), refl, refl, refl, c .no-effect .ensures)
 
 add-word : tie.Need-add-word Inv-loop μ-loop
 add-word c = omega (arith, table (s c), here c)
@@ -105,8 +96,8 @@ mul-word c = omega (arith, table (s c), here c)
 shared-slice-read-word : tie.Need-shared-slice-read-word Inv-loop μ-loop
 shared-slice-read-word c = omega (arith, here (c .before), s (c .before) .pre .1 .enough)
 
-marks-of-requires-2 : tie.Need-marks-of-requires-2 Inv-loop μ-loop
-marks-of-requires-2 c κs = search needs
+marks-of-requires : tie.Need-marks-of-requires Inv-loop μ-loop
+marks-of-requires c κs = search needs
 
 effect-after-requires : tie.Need-effect-after-requires Inv-loop μ-loop
 effect-after-requires c κs = c .before .before .before .loop .inv .4
@@ -118,7 +109,7 @@ read-letter-requires c κs =
     let t = s turn in
     let f = turn .before .loop .inv .0 in
     let same = f .front (tests turn .1) in
-    (t .pre .0, t .pre .2, omega (arith, t .pre .3, f .longer), tests turn .0, subst⁻¹ (λ (x : ℕ). getD (t .args .cells .now) (cell (lettersOf (bytes t)) (sourceIn (v t)) (turn .before .loop .a)) 0 ≡ cellWord (tableOf (bytes t)) (sourceIn x) (turn .before .loop .a)) same (t .pre .1 .entry (sourceIn (v t)) (turn .before .loop .a) (tests turn .0) (here turn)), subst⁻¹ (λ (x : ℕ). IsEffect (wordIn x) (e .effect-after .result)) same (e .effect-after .ensures .0), e .effect-after .ensures .1 ∙ e .before .marks-of2 .ensures, f .known (tests turn .1))
+    (t .pre .0, t .pre .2, omega (arith, t .pre .3, f .longer), tests turn .0, subst⁻¹ (λ (x : ℕ). getD (t .args .cells .now) (cell (lettersOf (bytes t)) (sourceIn (v t)) (turn .before .loop .a)) 0 ≡ cellWord (tableOf (bytes t)) (sourceIn x) (turn .before .loop .a)) same (t .pre .1 .entry (sourceIn (v t)) (turn .before .loop .a) (tests turn .0) (here turn)), subst⁻¹ (λ (x : ℕ). IsEffect (wordIn x) (e .effect-after .result)) same (e .effect-after .ensures .0), e .effect-after .ensures .1 ∙ e .before .marks-of .ensures, f .known (tests turn .1))
 
 add-a : tie.Need-add-a Inv-loop μ-loop
 add-a c =
@@ -173,15 +164,12 @@ read-row-spec =
     slice-read-key
     cast-first
     mul-first
-    mul-marks-of
-    shared-slice-read-marks-of
-    marks-of-requires
-    effect-of-requires
+    no-effect-requires
     loop-holds
     add-word
     mul-word
     shared-slice-read-word
-    marks-of-requires-2
+    marks-of-requires
     effect-after-requires
     read-letter-requires
     add-a

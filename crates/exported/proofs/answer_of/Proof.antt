@@ -1,0 +1,47 @@
+-- `exported::answer_of` meets its contract: each arm knows its case, and `answerOf` gives the number and the value of that case.
+use mathlib.Core.Path.{sym, ap}
+use borrow.Author.Needs.{needs}
+use Rattle.judge.specs.Judgements.{answerOf}
+use Rattle.exported.proofs.answer_of.Statement.{statement}
+use Rattle.exported.proofs.answer_of.Tie as tie
+
+enum-told : tie.Need-enum-told
+enum-told c = search needs
+
+enum-told-2 : tie.Need-enum-told-2
+enum-told-2 c = search needs
+
+enum-known-judged : tie.Need-enum-known-judged
+enum-known-judged c = search needs
+
+enum-known-judged-2 : tie.Need-enum-known-judged-2
+enum-known-judged-2 c = search needs
+
+cast-t5 : tie.Need-cast-t5
+cast-t5 c = search needs
+
+returns : tie.Need-returns
+returns c = ap answerOf (sym (c .enum-told .given .1))
+
+returns-2 : tie.Need-returns-2
+returns-2 c = ap answerOf (sym (c .enum-told2 .given .1))
+
+returns-3 : tie.Need-returns-3
+returns-3 c = ap answerOf (sym (c .before .judged .given .1))
+
+returns-4 : tie.Need-returns-4
+returns-4 c = ap answerOf (sym (c .before .judged2 .given .1))
+
+pub answer-of-spec : {M : Type 1} → statement M
+answer-of-spec =
+    tie.close
+    (tie.spec
+    enum-told
+    enum-told-2
+    enum-known-judged
+    enum-known-judged-2
+    cast-t5
+    returns
+    returns-2
+    returns-3
+    returns-4)

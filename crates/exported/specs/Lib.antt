@@ -1,0 +1,2 @@
+-- What the exported contracts cite beyond those of the calls.
+pub mod Results

@@ -1,0 +1,206 @@
+/*
+ * Duckbullion: deterministic Rabin automata translated into deterministic parity automata, for C and C++.
+ *
+ * Every call takes any bytes, arrays, sizes and places, however malformed, and says what it made of them: a refusal is
+ * a number. What each call is said here to do is proved of it, for all arguments; "document 01" is the requirements
+ * paper, whose clauses are the definitions that the proofs are about (README.md). `rt staticlib exported` makes the
+ * archive target/staticlib/libexported.a, for x86-64 Linux; it needs no library but C's.
+ *
+ * What a caller must see to, since no call can look at it:
+ *   - A pointer with length L points to L elements of its type, aligned for it, that may be read, and written where the
+ *     pointer is not const. L counts elements, not bytes.
+ *   - An array that a call may write shares no element with any other array of the same call, and nobody else uses it
+ *     during the call. Arrays that are only read may overlap each other.
+ *   - An array of length 0 is neither read nor written. A NULL pointer with length 0 was tried for every array of every
+ *     call and is taken as an empty array; the proofs speak of valid pointers only.
+ * No call keeps a pointer, allocates memory, or has a state of its own; calls that write different arrays may run at
+ * once. A call takes less than 64 KiB of stack (measured, not proved).
+ */
+#ifndef DUCKBULLION_H
+#define DUCKBULLION_H
+
+#include <stddef.h>
+#include <stdint.h>
+
+#ifdef __cplusplus
+extern "C" {
+#endif
+
+/*
+ * A Rabin table is bytes. Four first: states n (1 to 64), letters m (1 to 16), pairs k (0 to 6), start state. Then n*m
+ * target bytes, the cell of state q and letter a being number q*m + a, 255 for no transition. Then two bytes for each
+ * cell: the prohibited byte and the required byte, bit i - 1 for pair i. Its length is exactly 4 + 3*n*m.
+ *
+ * A parity table has N rows (1 to 4,096) and m letters (1 to 16): a target (16 bits, 65,535 for no transition) and a
+ * priority (a byte) for each row q and letter a, in cell q*m + a of two arrays. Row 0 is the start.
+ *
+ * A looped word is a lead-in of 0 to 65,535 letters and a loop of 1 to 65,535 that is repeated for ever; a letter is a
+ * byte below m.
+ */
+enum {
+    DUCKBULLION_MAX_STATES = 64,
+    DUCKBULLION_MAX_LETTERS = 16,
+    DUCKBULLION_MAX_PAIRS = 6,
+    DUCKBULLION_NO_STATE = 255,  /* the target byte of a missing transition of a Rabin table */
+    DUCKBULLION_MAX_ROWS = 4096, /* the largest capacity, and the most rows of a parity table */
+    DUCKBULLION_NO_ROW = 65535,  /* the target of a missing transition of a parity table */
+    DUCKBULLION_MAX_PIECE = 65535
+};
+
+/*
+ * Refusals. Each is given when its condition is the first met, and otherwise not:
+ *   of a Rabin table    fewer than 4 bytes (1), 2, the length (1 or 3), 4, 5 over all cells, 6 over all cells
+ *   of lent arrays      the table's, then 7, then 8 (only the translator gives 8)
+ *   of a looped word    the table's (1 to 6 for a Rabin table, 11 for a parity table), then 10, then 9
+ */
+enum {
+    DUCKBULLION_TAKEN = 0,  /* no refusal */
+    DUCKBULLION_SHORT = 1,  /* fewer than 4 bytes, or than the sizes demand */
+    DUCKBULLION_SIZES = 2,  /* n, m or k out of range */
+    DUCKBULLION_LONG = 3,   /* bytes left over */
+    DUCKBULLION_START = 4,  /* start not below n */
+    DUCKBULLION_TARGET = 5, /* a target neither below n nor 255 */
+    DUCKBULLION_MARKS = 6,  /* a bit above pair k, or any bit on a missing transition */
+    DUCKBULLION_ARRAYS = 7, /* the capacity out of range, or a lent array below its size */
+    DUCKBULLION_FULL = 8,   /* more reachable rows than the capacity */
+    DUCKBULLION_LETTER = 9, /* a byte of the word not below m */
+    DUCKBULLION_LOOP = 10,  /* the loop empty, or either piece over 65,535 */
+    DUCKBULLION_PARITY = 11 /* N not 1 to 4,096, m not 1 to 16, an array below N*m, or a target among the first N*m
+                               neither below N nor 65,535 */
+};
+
+/* The words of an answer. */
+enum {
+    DUCKBULLION_ACCEPTS = 0, /* value 0 */
+    DUCKBULLION_REJECTS = 1, /* value 0 */
+    DUCKBULLION_STOPS = 2,   /* value: the letters read before the missing transition, that one not counted */
+    DUCKBULLION_REFUSED = 3  /* value: the refusal's number */
+};
+
+/* A judge's answer to a looped word. */
+typedef struct duckbullion_answer {
+    uint32_t word;
+    uint32_t value;
+} duckbullion_answer;
+
+/* The translator's outcome: the refusal or 0, and the number of rows, 0 on a refusal. */
+typedef struct duckbullion_translation {
+    uint8_t number;
+    size_t rows;
+} duckbullion_translation;
+
+/* The pieces of a looped word. */
+enum { DUCKBULLION_LEAD_IN = 0, DUCKBULLION_LOOPED = 1 };
+
+/* A part of a piece: the piece, the letter of it with which the part begins, and how many letters the part has. */
+typedef struct duckbullion_rest {
+    size_t piece;
+    size_t start;
+    size_t length;
+} duckbullion_rest;
+
+/* The table's refusal, 1 to 6, or 0 where the table is taken. */
+uint8_t duckbullion_check_table(const uint8_t *table, size_t table_length);
+
+/* The table's letters m: its second byte, taken or not, and 0 where there is no second byte. */
+uint8_t duckbullion_letters_of(const uint8_t *table, size_t table_length);
+
+/*
+ * Components. Two states share a component if they are equal or each reaches the other.
+ * Result: the table's refusal; then 7 where out has fewer than n places; else 0.
+ * On 0 the first n entries of out are, state by state, the smallest state of the state's component, and the entries
+ * behind are untouched. On a refusal out holds what it held.
+ */
+uint8_t duckbullion_find_components(const uint8_t *table, size_t table_length,
+                                    uint8_t *out, size_t out_length);
+
+/*
+ * What the translator asks of each state. A transition is inside if both its ends share a component; a pair counts in a
+ * component if some inside transition of it has the pair's required bit.
+ * Result: the table's refusal; then 7 where either array has fewer than n places; else 0.
+ * On 0 the first n entries of inside are, state by state, the letters with an inside transition (bit a for letter a),
+ * those of counted the pairs that count in the state's component (bit i - 1 for pair i), and the entries behind are
+ * untouched. On a refusal both arrays hold what they held.
+ */
+uint8_t duckbullion_survey_table(const uint8_t *table, size_t table_length,
+                                 uint16_t *inside, size_t inside_length,
+                                 uint8_t *counted, size_t counted_length);
+
+/*
+ * Translates a Rabin table into a parity table, by index appearance records. A row is a source state with a record, an
+ * ordering of the pairs that count in its component; rows are numbered from 0 in order of discovery, rows taken by
+ * number and letters rising within each. The capacity c is 1 to 4,096; the arrays have at least c*m targets, c*m
+ * priorities, c source states and c record numbers, and may be longer.
+ * Result: number is the table's refusal; then 7 for the capacity or an array; then 8 where more than c rows are
+ * reachable; else 0. rows is the number of rows N on 0, and 0 on a refusal.
+ * On 0: for each row q below N and each letter a, cell q*m + a of targets and priorities is the row that it leads to and
+ * its priority, 65,535 and 0 for a missing transition; sources has the row's state, records its pair numbers read as
+ * one decimal number, 0 if there are none. Rows N to c - 1 are 0 in all four arrays.
+ * On 8: the first c rows of all four arrays (c*m cells, c entries) are 0.
+ * On another number: all four arrays hold what they held. Entries past row c - 1 are never touched.
+ * On 0, as long as nobody writes the arrays, duckbullion_judge_rabin on the table and duckbullion_judge_parity on N, m,
+ * targets and priorities give the same answer to every looped word, the count of a stop and a refusal included.
+ */
+duckbullion_translation duckbullion_translate_table(const uint8_t *table, size_t table_length,
+                                                    size_t capacity,
+                                                    uint16_t *targets, size_t targets_length,
+                                                    uint8_t *priorities, size_t priorities_length,
+                                                    uint8_t *sources, size_t sources_length,
+                                                    uint32_t *records, size_t records_length);
+
+/*
+ * Translates as duckbullion_translate_table does, with the same later contents of the four arrays, and writes the
+ * listing of the outcome (document 01, "Listing program") into out.
+ * Result: the length of the whole text. What does not fit out is dropped; bytes behind the text stay.
+ */
+size_t duckbullion_list_table(const uint8_t *table, size_t table_length,
+                              size_t capacity,
+                              uint16_t *targets, size_t targets_length,
+                              uint8_t *priorities, size_t priorities_length,
+                              uint8_t *sources, size_t sources_length,
+                              uint32_t *records, size_t records_length,
+                              uint8_t *out, size_t out_length);
+
+/*
+ * Judges. A run begins at the start, reads the lead-in, then the loop again and again. At a missing transition it
+ * stops. A transition recurs if it is taken in repetitions without end.
+ * Answer: refused with the table's refusal, then 10, then 9; else stops, with the letters read, exactly if the run meets
+ * a missing transition; else accepts or rejects.
+ * Arrays are only read.
+ */
+
+/*
+ * The answer of a Rabin table: it accepts if for some pair no recurring transition has its prohibited bit and at least
+ * one has its required bit. The table's refusal is 1 to 6.
+ */
+duckbullion_answer duckbullion_judge_rabin(const uint8_t *table, size_t table_length,
+                                           const uint8_t *lead, size_t lead_length,
+                                           const uint8_t *looped, size_t looped_length);
+
+/*
+ * The answer of a parity table of rows rows and letters letters, from anyone: it accepts if the largest priority of the
+ * recurring transitions is even. The arrays have at least rows*letters entries and may be longer; the table's refusal
+ * is 11.
+ */
+duckbullion_answer duckbullion_judge_parity(size_t rows, size_t letters,
+                                            const uint16_t *targets, size_t targets_length,
+                                            const uint8_t *priorities, size_t priorities_length,
+                                            const uint8_t *lead, size_t lead_length,
+                                            const uint8_t *looped, size_t looped_length);
+
+/*
+ * The rest of a piece. Places count from 0 through the lead-in and then one loop; the part goes from the place to the
+ * end of its piece. Refuses nothing.
+ * Result: in the lead-in, piece 0 and start the place; in the loop, piece 1 and start the place less the lead-in's
+ * length; past the last letter the empty end of the loop, piece 1, start looped_length and length 0. The part is
+ * length letters, from lead + start or looped + start on.
+ */
+duckbullion_rest duckbullion_rest_of(const uint8_t *lead, size_t lead_length,
+                                     const uint8_t *looped, size_t looped_length,
+                                     size_t place);
+
+#ifdef __cplusplus
+}
+#endif
+
+#endif
