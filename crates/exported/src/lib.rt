@@ -1,10 +1,11 @@
 // The public calls on tables and words for C and Rust: a slice goes out as a pointer and a length, an answer as two numbers.
-// It rests on `tables`, `translate` and `judge`, passes each call on as it is, and has no work of its own but to number an answer and
+// It rests on `tables`, `translate`, `judge` and `listing_text`, passes each call on as it is, and has no work of its own but to number an answer and
 // to say where a part lies. Each call keeps the promise of the one that it passes on to, for all bytes, arrays, sizes and places.
 use judge::Judged;
 use judge::judge_parity;
 use judge::judge_rabin;
 use judge::rest_of;
+use listing_text::list_table;
 use tables::check_table;
 use tables::find_components;
 use tables::letters_of;
@@ -13,6 +14,7 @@ use translate::Translation;
 use translate::translate_table;
 ghost use mathlib.Core.Path.{_≡_};
 ghost use Rattle.rules.specs.Says.{CheckSays, ComponentsSay, TranslateSays, TranslationAgrees, RabinSays, ParitySays};
+ghost use Rattle.rules.specs.Listings.{ListingSays};
 ghost use Rattle.rules.specs.Tables.{tableOf};
 ghost use Rattle.tables.specs.Surveys.{SurveySays};
 ghost use Rattle.judge.specs.Judgements.{answerOf};
@@ -83,6 +85,22 @@ pub extern "C" fn duckbullion_translate_table(
     ensures agrees { λ r. ⌜ TranslationAgrees (now (table .entry)) (now (targets .exit)) (now (priorities .exit)) (now (sources .exit)) (r .number) (r .rows) ⌝ }
 {
     translate_table(table, capacity, targets, priorities, sources, records)
+}
+
+// The listing of a table's translation, in `out` as far as it fits; the result is the length of the whole text.
+#[no_mangle]
+pub extern "C" fn duckbullion_list_table(
+    table: &[u8],
+    capacity: usize,
+    targets: &mut [u16],
+    priorities: &mut [u8],
+    sources: &mut [u8],
+    records: &mut [u32],
+    out: &mut [u8],
+) -> usize
+    ensures { λ r. ⌜ ListingSays (now (table .entry)) capacity (now (targets .entry)) (now (targets .exit)) (now (priorities .entry)) (now (priorities .exit)) (now (sources .entry)) (now (sources .exit)) (now (records .entry)) (now (records .exit)) (now (out .entry)) (now (out .exit)) r ⌝ }
+{
+    list_table(table, capacity, targets, priorities, sources, records, out)
 }
 
 // An answer's number and value.

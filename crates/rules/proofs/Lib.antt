@@ -20,3 +20,5 @@ pub mod RabinTables
 pub mod Numbers
 pub mod Demands
 pub mod Cards
+pub mod Texts
+pub mod Listings

@@ -12,4 +12,6 @@ pub mod Judges
 pub mod Constructions
 pub mod Claims
 pub mod Says
+pub mod Texts
+pub mod Listings
 pub mod Cards

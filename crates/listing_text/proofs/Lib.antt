@@ -1,0 +1,4 @@
+-- The laws behind the writers' proofs, bottom first.
+pub mod Writing
+pub mod Bounds
+pub mod Promises

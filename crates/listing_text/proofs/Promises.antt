@@ -1,0 +1,136 @@
+-- From what the translator promises to what the listing promises.
+--     taken-translation          where nothing is refused, the table is taken and its rows are within document 01's range
+--     front-length, front-at     on success an array begins with what the translator found
+--     lines-same                 lines over arrays that agree where they are read
+--     success                    what the translator promises, where its number is 0; then:
+--     taken                      the table is taken
+--     shown                      there is room in the arrays for the rows
+--     listing-done               the listing is the head and the lines of the arrays as they are left
+--     listing-refused            on a refusal the listing is its line
+--     listing-says               the promise, where the listing is the text that was written
+use mathlib.Core.Path.{_≡_, sym, ap, _∙_}
+use mathlib.Core.Bool.{_||_}
+use mathlib.Core.List.{List, _++_, append-assoc}
+use Prim.Native.Nat.{ℕ, _*_, _≤_, _<_}
+use native.Mathlib.Nat.{le-trans}
+use native.Mathlib.Omega.{arith}
+use lib.Dec.{eqb, ltb}
+use lib.ListN.{length, getD, length-append, length-map, List·getD-append}
+use borrow.Author.Tests.{ltb-false, ne-eqb}
+use Rattle.rules.specs.Basics.{firstOf, when}
+use Rattle.rules.specs.Limits.{maxRows, noRow}
+use Rattle.rules.specs.Refusals as Refusal
+use Rattle.rules.specs.Systems.{cell}
+use Rattle.rules.specs.Records.{decimal}
+use Rattle.rules.specs.Rows.{targetNumber}
+use Rattle.rules.specs.Tables.{tableOf, tableFault, tablePlan}
+use Rattle.rules.specs.Claims.{tableRows, targets, priorities, sourceStates, recordNumbers, exceeds}
+use Rattle.rules.specs.Says.{areShort, arraysFault, translateFault, afterwards, TranslateSays}
+use Rattle.rules.specs.Listings.{lineAt, rowLines, linesAt, lines, head, refused, tableListing, listing, ListingSays}
+use Rattle.rules.proofs.Bools.{or-none}
+use Rattle.rules.proofs.Arrays.{cells-length}
+use Rattle.rules.proofs.Texts.{each-same}
+use Rattle.rules.proofs.Refusals.{TakenTable, first-zero, first-none, when-none, taken-table}
+use Rattle.listing_text.specs.Writing.{Wrote, Shown}
+use Rattle.listing_text.proofs.Bounds.{row-ends}
+
+-- ---- nothing is refused
+taken-translation : (bs : List ℕ) (c a b d e : ℕ) → translateFault bs c a b d e ≡ 0 → TakenTable bs × (length (tableRows bs c) ≤ maxRows)
+unfolding translateFault
+taken-translation bs c a b d e z =
+    let m = tableOf bs .letters in
+    let full = exceeds bs c in
+    let arrays = ltb a (c * m) || (ltb b (c * m) || (ltb d c || ltb e c)) in
+    let r = first-zero (tableFault bs) (firstOf (arraysFault c m a b d e) (when full Refusal.full)) z in
+    let u = first-none (areShort c m a b d e) 6 (when full Refusal.full) (r .1) in
+    let v = or-none (eqb c 0) (ltb maxRows c || arrays) (u .0) in
+    let w = or-none (ltb maxRows c) arrays (v .1) in
+    (taken-table bs (r .0), le-trans (ltb-false c _ (when-none full 7 (u .1))) (ltb-false maxRows c (w .0)))
+
+-- ---- the fronts of the arrays
+module _ (k : ℕ) (xs o o′ : List ℕ) (e : o′ ≡ afterwards 0 k xs o) where
+  front-length : length xs ≤ length o′
+  front-length = rw (e, append-assoc) (simp length-append (omega arith))
+
+  front-at : (p : ℕ) → p < length xs → getD o′ p 0 ≡ getD xs p 0
+  front-at p l = rw (e, append-assoc) (List·getD-append xs _ 0 p l)
+
+-- ---- lines over arrays that agree
+lines-same : (n m : ℕ) (ts ts′ ps ps′ ss ss′ rs rs′ : List ℕ) → ((p : ℕ) → p < n * m → getD ts p 0 ≡ getD ts′ p 0)
+    → ((p : ℕ) → p < n * m → getD ps p 0 ≡ getD ps′ p 0) → ((i : ℕ) → i < n → getD ss i 0 ≡ getD ss′ i 0)
+    → ((i : ℕ) → i < n → getD rs i 0 ≡ getD rs′ i 0) → lines n m ts ps ss rs ≡ lines n m ts′ ps′ ss′ rs′
+unfolding lines rowLines
+lines-same n m ts ts′ ps ps′ ss ss′ rs rs′ ft fp fs fr =
+    each-same (linesAt m ts ps ss rs) (linesAt m ts′ ps′ ss′ rs′) n (λ i l. rw (fs i l, fr i l) (each-same (before i) (after i) m (letters i l)))
+  where
+    before : ℕ → ℕ → List ℕ
+    before i = lineAt m ts ps i (getD ss′ i 0) (getD rs′ i 0)
+
+    after : ℕ → ℕ → List ℕ
+    after i = lineAt m ts′ ps′ i (getD ss′ i 0) (getD rs′ i 0)
+
+    letters : (i : ℕ) → i < n → (a : ℕ) → a < m → before i a ≡ after i a
+    letters i l a h = let b : cell m i a < n * m = omega (arith, row-ends n m i l) in rw (ft (cell m i a) b, fp (cell m i a) b)
+
+-- ---- success
+pub success : {bs : List ℕ} {c : ℕ} {a a′ b b′ d d′ e e′ : List ℕ} {number rows : ℕ} → number ≡ 0 → TranslateSays bs c a a′ b b′ d d′ e e′ number rows → TranslateSays bs c a a′ b b′ d d′ e e′ 0 rows
+success z says = rw z at says
+
+module _ {bs : List ℕ} {c : ℕ} {a a′ b b′ d d′ e e′ : List ℕ} {rows : ℕ} (says : TranslateSays bs c a a′ b b′ d d′ e e′ 0 rows) where
+  cells : length (tableRows bs c) * tableOf bs .letters ≡ rows * tableOf bs .letters
+  cells = rw (says .count)
+
+  target-length : length (targets bs c) ≡ rows * tableOf bs .letters
+  target-length = cells-length (targetNumber (tablePlan (tableOf bs)) noRow (tableRows bs c)) (tableOf bs .letters) (tableRows bs c) ∙ cells
+
+  priority-length : length (priorities bs c) ≡ rows * tableOf bs .letters
+  priority-length = cells-length (λ x y. tablePlan (tableOf bs) .step x y .prio) (tableOf bs .letters) (tableRows bs c) ∙ cells
+
+  state-length : length (sourceStates bs c) ≡ rows
+  state-length = length-map (tableRows bs c) (λ r. r .source) ∙ sym (says .count)
+
+  record-length : length (recordNumbers bs c) ≡ rows
+  record-length = length-map (tableRows bs c) (λ r. decimal (r .memory)) ∙ sym (says .count)
+
+  pub taken : TakenTable bs
+  taken = taken-translation bs c (length a) (length b) (length d) (length e) (sym (says .refusal)) .0
+
+  pub shown : Shown rows (tableOf bs .letters) a′ b′ d′ e′
+  shown =
+      let k = c * tableOf bs .letters in
+      record {
+        most-rows = rw (says .count) (taken-translation bs c (length a) (length b) (length d) (length e) (sym (says .refusal)) .1);
+        most-letters = taken .sizes .most-letters;
+        target-cells = omega (arith, target-length, front-length k (targets bs c) a a′ (says .target-array));
+        priority-cells = omega (arith, priority-length, front-length k (priorities bs c) b b′ (says .priority-array));
+        states = omega (arith, state-length, front-length c (sourceStates bs c) d d′ (says .state-array));
+        records = omega (arith, record-length, front-length c (recordNumbers bs c) e e′ (says .record-array));
+      }
+
+  -- the arrays as they are left give the lines of what was found
+  as-found : lines rows (tableOf bs .letters) a′ b′ d′ e′ ≡ lines rows (tableOf bs .letters) (targets bs c) (priorities bs c) (sourceStates bs c) (recordNumbers bs c)
+  as-found =
+      let k = c * tableOf bs .letters in
+      lines-same rows (tableOf bs .letters) a′ (targets bs c) b′ (priorities bs c) d′ (sourceStates bs c) e′ (recordNumbers bs c)
+      (λ p l. front-at k (targets bs c) a a′ (says .target-array) p (omega (arith, target-length)))
+      (λ p l. front-at k (priorities bs c) b b′ (says .priority-array) p (omega (arith, priority-length)))
+      (λ i l. front-at c (sourceStates bs c) d d′ (says .state-array) i (omega (arith, state-length)))
+      (λ i l. front-at c (recordNumbers bs c) e e′ (says .record-array) i (omega (arith, record-length)))
+
+  pub listing-done : listing bs c (length a) (length b) (length d) (length e) ≡ head rows (tableOf bs .letters) (tableOf bs .pairs) ++ lines rows (tableOf bs .letters) a′ b′ d′ e′
+  unfolding listing tableListing
+  listing-done = rw (← says .refusal, ← says .count, as-found)
+
+-- ---- both outcomes
+module _ {bs : List ℕ} {c : ℕ} {a a′ b b′ d d′ e e′ : List ℕ} {number rows : ℕ} (says : TranslateSays bs c a a′ b b′ d d′ e e′ number rows) where
+  pub listing-refused : (number ≡ 0 → ⊥) → listing bs c (length a) (length b) (length d) (length e) ≡ refused number
+  unfolding listing
+  listing-refused ne = rw (← says .refusal, ne-eqb number 0 ne)
+
+  pub listing-says : {o o′ t : List ℕ} {r : ℕ} → listing bs c (length a) (length b) (length d) (length e) ≡ t → Wrote 0 t o o′ r → ListingSays bs c a a′ b b′ d d′ e e′ o o′ r
+  listing-says is w =
+      record {
+        arrays = rw (says .refusal) at (rw (says .count) at says);
+        text = rw is (w .contents);
+        size = omega (arith, w .next, ap length is);
+      }

@@ -1,0 +1,28 @@
+-- `listing_text::lines::put_refusal` meets its contract: the word, then the number.
+use borrow.Author.Needs.{needs}
+use Rattle.rules.specs.Listings.{refused}
+use Rattle.listing_text.proofs.Writing.{wrote-both, reach-then}
+use Rattle.listing_text.proofs.lines.put_refusal.Statement.{statement}
+use Rattle.listing_text.proofs.lines.put_refusal.Tie as tie
+
+slice-aggregate-put-bytes : tie.Need-slice-aggregate-put-bytes
+slice-aggregate-put-bytes c = search needs
+
+put-bytes-requires : tie.Need-put-bytes-requires
+put-bytes-requires c κs = search needs
+
+put-field-requires : tie.Need-put-field-requires
+unfolding refused
+put-field-requires c κs = reach-then _ (c .before .before .before .before .before .before .before .pre) (c .before .before .before .put-bytes .ensures)
+
+same-length : tie.Need-same-length
+same-length c = search needs
+
+returns : tie.Need-returns
+unfolding refused
+returns c = wrote-both (c .before .before .before .before .before .before .put-bytes .ensures) (c .before .before .put-field .ensures)
+
+pub put-refusal-spec : {M : Type 1} → statement M
+put-refusal-spec =
+    tie.close
+    (tie.spec slice-aggregate-put-bytes put-bytes-requires put-field-requires same-length returns)

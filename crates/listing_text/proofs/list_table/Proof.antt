@@ -1,0 +1,107 @@
+-- `listing_text::list_table` meets its contract: the text of either outcome, by the laws of `Promises`.
+use native.Mathlib.Omega.{arith}
+use borrow.Author.Needs.{needs}
+use Rattle.rules.specs.Says.{TranslateSays}
+use Rattle.listing_text.proofs.Bounds.{lines-reach, refused-reach}
+use Rattle.listing_text.proofs.Promises.{success, taken, shown, listing-done, listing-refused, listing-says}
+use Rattle.listing_text.proofs.list_table.Statement.{statement}
+use Rattle.listing_text.proofs.list_table.Tie as tie
+
+-- nothing is refused
+module _ (c : tie.Else1) where
+  abbrev found : tie.After-translate-table
+  found = c .before .before .before .before .before .before .before .before .before
+
+  abbrev start : tie.Start
+  start = found .before .before .before .before .before .before .before .before .before .before .before
+
+  done : TranslateSays (start .args .table .now) (start .args .capacity) (start .args .targets .now) (found .translate-table .last .1 .1 .0) (start .args .priorities .now) (found .translate-table .last .1 .1 .1 .0) (start .args .sources .now) (found .translate-table .last .1 .1 .1 .1 .0) (start .args .records .now) (found .translate-table .last .1 .1 .1 .1 .1 .0) 0 (found .translate-table .result .rows)
+  done = success (c .if1 .left) (found .translate-table .ensures .0)
+
+translate-table-requires : tie.Need-translate-table-requires
+translate-table-requires c κs = search needs
+
+put-refusal-requires : tie.Need-put-refusal-requires
+put-refusal-requires c κs = refused-reach _ (omega arith)
+
+same-length : tie.Need-same-length
+same-length c = search needs
+
+same-length-2 : tie.Need-same-length-2
+same-length-2 c = search needs
+
+same-length-3 : tie.Need-same-length-3
+same-length-3 c = search needs
+
+same-length-4 : tie.Need-same-length-4
+same-length-4 c = search needs
+
+same-length-5 : tie.Need-same-length-5
+same-length-5 c = search needs
+
+returns : tie.Need-returns
+returns c =
+    let says = c .before .before .before .before .before .before .before .before .before .before .before .before .before .translate-table .ensures .0 in
+    listing-says says (listing-refused says (c .before .before .before .before .if1 .taken)) (c .before .before .put-refusal .ensures)
+
+shared-slice-read-letters : tie.Need-shared-slice-read-letters
+shared-slice-read-letters c = omega (arith, taken (done (c .before)))
+
+cast-letters : tie.Need-cast-letters
+cast-letters c = omega (arith, taken (done (c .before)))
+
+shared-slice-read-pairs : tie.Need-shared-slice-read-pairs
+shared-slice-read-pairs c = omega (arith, taken (done (c .before .before)))
+
+put-table-requires : tie.Need-put-table-requires
+put-table-requires c κs =
+    let s = c .before .before .before .before .before .before .before in
+    let room = shown (done s) in
+    let targets = s .before .before .before .before .before .before .before .slice-known6 .given in
+    let priorities = s .before .before .before .before .before .slice-known7 .given in
+    let sources = s .before .before .before .slice-known8 .given in
+    let records = s .before .slice-known9 .given in
+    (lines-reach _ (room .most-letters) _ _ (λ i. omega (arith, targets i)) (λ i. omega (arith, priorities i)) _ _ _ _ (room .most-rows) (omega (arith, taken (done s))) (λ i. omega (arith, sources i)) (λ i. omega (arith, records i)), room)
+
+same-length-6 : tie.Need-same-length-6
+same-length-6 c = search needs
+
+same-length-7 : tie.Need-same-length-7
+same-length-7 c = search needs
+
+same-length-8 : tie.Need-same-length-8
+same-length-8 c = search needs
+
+same-length-9 : tie.Need-same-length-9
+same-length-9 c = search needs
+
+same-length-10 : tie.Need-same-length-10
+same-length-10 c = search needs
+
+returns-2 : tie.Need-returns-2
+returns-2 c =
+    let s = c .before .before .before .before .before .before .before .before .before .before in
+    listing-says (found s .translate-table .ensures .0) (listing-done (done s)) (c .before .before .put-table .ensures)
+
+pub list-table-spec : {M : Type 1} → statement M
+list-table-spec =
+    tie.close
+    (tie.spec
+    translate-table-requires
+    put-refusal-requires
+    same-length
+    same-length-2
+    same-length-3
+    same-length-4
+    same-length-5
+    returns
+    shared-slice-read-letters
+    cast-letters
+    shared-slice-read-pairs
+    put-table-requires
+    same-length-6
+    same-length-7
+    same-length-8
+    same-length-9
+    same-length-10
+    returns-2)

@@ -1,0 +1,77 @@
+-- The listing of a translation: the text that document 01's listing program prints, byte for byte.
+--     field n end                  a number and the byte that ends its field
+--     optional none n end          the same, a dash for the number where there is none
+--     line i q r a t p             the line of row i with source state q and record number r, and of letter a with target t and priority p;
+--                                  an empty record, and target and priority of a missing transition, are dashes
+--     lineAt m ts ps i q r a       the line of row i and letter a, its target and its priority read from ts and ps
+--     rowLines m ts ps i q r       the lines of row i, m letters rising
+--     linesAt m ts ps ss rs i      the lines of row i, its source state and its record number read from ss and rs
+--     lines n m ts ps ss rs        the lines of rows 0 to n - 1
+--     head n m k                   the first line: rows, letters and pairs
+--     refused f                    the line of the refusal f: the word and the number
+--     tableListing bs c            the head and the lines of the table that the bytes say, translated with the capacity c
+--     listing bs c a b d e         the whole text, where the four lent arrays have the lengths a, b, d and e
+--     rowsListed bs c a b d e      the rows listed, 0 on a refusal
+--     ListingSays bs c a a′ .. o o′ r     listing into o: what the translator leaves in its four arrays, the text in o as far as it fits, and r,
+--                                  the length of the whole text
+use mathlib.Core.Path.{_≡_}
+use mathlib.Core.Bool.{Bool}
+use mathlib.Core.List.{List, [], _∷_, _++_}
+use Prim.Native.Nat.{ℕ}
+use lib.Dec.{eqb}
+use lib.ListN.{length, getD}
+use Rattle.rules.specs.Basics.{pick}
+use Rattle.rules.specs.Limits.{noRow}
+use Rattle.rules.specs.Systems.{cell}
+use Rattle.rules.specs.Tables.{tableOf}
+use Rattle.rules.specs.Claims.{tableRows, targets, priorities, sourceStates, recordNumbers}
+use Rattle.rules.specs.Says.{translateFault, TranslateSays}
+use Rattle.rules.specs.Texts.{blank, lineFeed, dash, numeral, each, put}
+
+-- fields
+unfoldable pub field : ℕ → ℕ → List ℕ
+field n end = numeral n ++ (end ∷ [])
+
+unfoldable pub optional : Bool → ℕ → ℕ → List ℕ
+optional none n end = pick none (dash ∷ []) (numeral n) ++ (end ∷ [])
+
+-- lines
+unfoldable pub line : ℕ → ℕ → ℕ → ℕ → ℕ → ℕ → List ℕ
+line i q r a t p =
+    field i blank ++ (field q blank ++ (optional (eqb r 0) r blank ++ (field a blank ++ (optional (eqb t noRow) t blank ++ optional (eqb t noRow) p lineFeed))))
+
+abbrev pub lineAt : ℕ → List ℕ → List ℕ → ℕ → ℕ → ℕ → ℕ → List ℕ
+lineAt m ts ps i q r a = line i q r a (getD ts (cell m i a) 0) (getD ps (cell m i a) 0)
+
+unfoldable pub rowLines : ℕ → List ℕ → List ℕ → ℕ → ℕ → ℕ → List ℕ
+rowLines m ts ps i q r = each m 0 (lineAt m ts ps i q r)
+
+abbrev pub linesAt : ℕ → List ℕ → List ℕ → List ℕ → List ℕ → ℕ → List ℕ
+linesAt m ts ps ss rs i = rowLines m ts ps i (getD ss i 0) (getD rs i 0)
+
+unfoldable pub lines : ℕ → ℕ → List ℕ → List ℕ → List ℕ → List ℕ → List ℕ
+lines n m ts ps ss rs = each n 0 (linesAt m ts ps ss rs)
+
+unfoldable pub head : ℕ → ℕ → ℕ → List ℕ
+head n m k = field n blank ++ (field m blank ++ field k lineFeed)
+
+unfoldable pub refused : ℕ → List ℕ
+refused f = (114 ∷ 101 ∷ 102 ∷ 117 ∷ 115 ∷ 101 ∷ 100 ∷ blank ∷ []) ++ field f lineFeed
+
+-- the whole text
+unfoldable pub tableListing : List ℕ → ℕ → List ℕ
+tableListing bs c =
+    let n = length (tableRows bs c) in
+    let m = tableOf bs .letters in
+    head n m (tableOf bs .pairs) ++ lines n m (targets bs c) (priorities bs c) (sourceStates bs c) (recordNumbers bs c)
+
+unfoldable pub listing : List ℕ → ℕ → ℕ → ℕ → ℕ → ℕ → List ℕ
+listing bs c a b d e = pick (eqb (translateFault bs c a b d e) 0) (tableListing bs c) (refused (translateFault bs c a b d e))
+
+abbrev pub rowsListed : List ℕ → ℕ → ℕ → ℕ → ℕ → ℕ → ℕ
+rowsListed bs c a b d e = pick (eqb (translateFault bs c a b d e) 0) (length (tableRows bs c)) 0
+
+pub record ListingSays (bs : List ℕ) (c : ℕ) (a a′ b b′ d d′ e e′ o o′ : List ℕ) (r : ℕ) : Type 0 where
+  pub arrays : TranslateSays bs c a a′ b b′ d d′ e e′ (translateFault bs c (length a) (length b) (length d) (length e)) (rowsListed bs c (length a) (length b) (length d) (length e))
+  pub text : o′ ≡ put 0 (listing bs c (length a) (length b) (length d) (length e)) o
+  pub size : r ≡ length (listing bs c (length a) (length b) (length d) (length e))
