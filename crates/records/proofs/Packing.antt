@@ -6,6 +6,7 @@
 --     packed-append            the word of two lists, one behind the other
 --     moved-joined, moved-small     the word after a move, from the words of its two parts, and its bound
 --     places-length, places-at, places-below     how many places are read, what stands there, and that it is below base
+--     pair-raised              the pair at a position, read from the word with no pair in front
 --     position-within          a position that is not refused is one of the record
 --     no-pair-at, pair-shifted, pair-below     the pair at a position: none, as a shift finds it, and below base
 --     rising-at, rising-below  the numbers from 1 on
@@ -15,15 +16,17 @@
 --     marked-shifted           a pair is in a set, as a shift finds it
 --     moved-unmarked, priority-unmarked     the move and the priority where nothing is marked
 --     last-within              the last position of a marked pair lies within the record
---     priority-later           the priority, from the last positions of a prohibited and of a required pair
+--     marked-either            a pair of two sets together
+--     decidedBy, priority-last     the priority, from the last position of a pair with either mark
 --     kept-turn, width-turn, last-turn, digit-turn     a turn at one position
 --     digit-below              a number with one digit more stays below the next power of ten
-use mathlib.Core.Path.{_≡_, refl, sym, ap, _∙_}
+use mathlib.Core.Path.{_≡_, refl, sym, ap, ap₂, _∙_}
 use mathlib.Core.Bool.{Bool, true, false, not, _&&_, _||_, false≢true}
 use mathlib.Core.List.{List, [], _∷_, _++_, append-nil, append-assoc}
-use Prim.Native.Nat.{ℕ, zero, suc, _+_, _-_, _*_, _/_, _%_, _^_, _≤_, _<_, max}
+use Prim.Native.Nat.{ℕ, zero, suc, _+_, _-_, _*_, _/_, _%_, _^_, _≤_, _<_}
 use native.Mathlib.Nat.{div-one, div-eq-of-lt, mod-eq-of-lt, mul-assoc, pow-suc, pow-succ', pow-le-pow-right, one-le-pow, one-mul}
 use native.Mathlib.Omega.{arith}
+use lib.Bits.{bitOr}
 use lib.Dec.{eqb, ltb, lit<}
 use lib.ListN.{length, getD, take, drop, replicate, length-drop, take-append-drop, List·getD-eq-default}
 use lib.Pow.{shr-shr, pow-mono}
@@ -32,7 +35,7 @@ use borrow.Author.Tests.{eqb-true, eqb-false, eq-eqb, ne-eqb, ltb-true, ltb-fals
 use Rattle.rules.specs.Basics.{pick, any, isIn, keep, tabulate}
 use Rattle.rules.specs.Records.{Marks, asTheyStood, moved, priorityWith, priorityFrom, priority, decimalFrom}
 use Rattle.rules.proofs.Bools.{by, clash, or-cases, or-left, or-right, or-none}
-use Rattle.rules.proofs.Bits.{bit-none}
+use Rattle.rules.proofs.Bits.{bit-none, bit-or}
 use Rattle.rules.proofs.Sets.{any-append, any-find}
 use Rattle.rules.proofs.Arrays.{tabulate-at}
 use Rattle.rules.proofs.Appearance.{kept-length, keep-append, keep-free, keep-hold, others-all, marked, priority-none, moved-length}
@@ -112,6 +115,13 @@ places-at (suc n) w zero l = rw (div-one w)
 places-at (suc n) w (suc j) l =
     let e : w / 8 / 2 ^ (3 * j) ≡ w / 2 ^ (3 * suc j) = shr-shr w 3 (3 * j) ∙ ap (λ (s : ℕ). w / 2 ^ s) (omega arith) in
     places-at n (w / base) j (omega arith) ∙ ap (λ (x : ℕ). x % base) e
+
+-- with no pair in front, every position of the record is read by a shift
+pub pair-raised : (w p : ℕ) → p ≤ limit → base * w / 2 ^ (3 * p) % base ≡ getD (0 ∷ places w) p 0
+pair-raised w p l =
+    let none : base * w % base ≡ 0 = omega arith in
+    let rest : base * w / base ≡ w = omega arith in
+    sym (places-at (suc limit) (base * w) p (omega arith)) ∙ ap (λ (o : List ℕ). getD o p 0) (ap₂ _∷_ none (ap (placesOf limit) rest))
 
 pub places-below : (n w : ℕ) → AllBelow (placesOf n w)
 places-below zero w i h = absurd (false≢true h)
@@ -252,6 +262,9 @@ marked-shifted set (suc j) l =
     shifted =
         ap (λ (s : ℕ). 2 * set / 2 ^ s) (omega arith) ∙ sym (shr-shr (2 * set) 1 j) ∙ ap (λ (x : ℕ). x / 2 ^ j) (omega arith)
 
+pub marked-either : (p r i : ℕ) → isMarked (bitOr p r) i ≡ isMarked p i || isMarked r i
+marked-either p r i = by (isPair i) (λ e. rw e (bit-or (i - 1) p r)) (λ e. rw e)
+
 -- ---- priorities
 pub priority-unmarked : (o : List ℕ) → priority (marksIn 0 0) o ≡ 1
 priority-unmarked o = priority-none (marksIn 0 0) o (never-any (marked (marksIn 0 0)) o (λ i. rw (unmarked i)))
@@ -267,18 +280,34 @@ last-below b (i ∷ o) p best l =
 pub last-within : (b : ℕ → Bool) (o : List ℕ) → lastPosition b o ≤ length o
 last-within b o = omega (arith, last-below b o 1 0 (omega arith))
 
--- with x and y the last positions of a prohibited and of a required pair before position p
-later-from : (m : Marks) (o : List ℕ) (p x y best : ℕ) → x < p → y < p → best ≡ max (2 * x + 1) (2 * y)
-    → priorityFrom p m o best ≡ max (2 * lastFrom p (m .prohibited) o x + 1) (2 * lastFrom p (m .required) o y)
-later-from m [] p x y best lx ly e = e
-later-from m (i ∷ o) p x y best lx ly e =
-    by
-    (m .prohibited i)
-    (λ f. by (m .required i) (λ g. rw (f, g) (later-from m o (suc p) p p _ (omega arith) (omega arith) (omega arith))) (λ g. rw (f, g) (later-from m o (suc p) p y _ (omega arith) (omega arith) (omega arith))))
-    (λ f. by (m .required i) (λ g. rw (f, g) (later-from m o (suc p) x p _ (omega arith) (omega arith) (omega arith))) (λ g. rw (f, g) (later-from m o (suc p) x y best (omega arith) (omega arith) e)))
+-- the priority that the pair at the last marked position x makes, where `pair` has the pair of each position
+abbrev pub decidedBy : Marks → (ℕ → ℕ) → ℕ → ℕ
+decidedBy m pair x = pick (eqb x 0) 1 (2 * x + pick (m .prohibited (pair x)) 1 0)
 
-pub priority-later : (m : Marks) (o : List ℕ) → priority m o ≡ max (2 * lastPosition (m .prohibited) o + 1) (2 * lastPosition (m .required) o)
-priority-later m o = later-from m o 1 0 0 1 (omega arith) (omega arith) refl
+module _ (m : Marks) (either : ℕ → Bool) (tests : (i : ℕ) → either i ≡ m .prohibited i || m .required i) where
+  last-from : (pair : ℕ → ℕ) (o : List ℕ) (p x best : ℕ) → 1 ≤ p → ((k : ℕ) → k < length o → pair (p + k) ≡ getD o k 0)
+      → best ≡ decidedBy m pair x → priorityFrom p m o best ≡ decidedBy m pair (lastFrom p either o x)
+  last-from pair [] p x best some at e = e
+  last-from pair (i ∷ o) p x best some at e =
+      let rest : (y v : ℕ) → v ≡ decidedBy m pair y → priorityFrom (suc p) m o v ≡ decidedBy m pair (lastFrom (suc p) either o y) = λ y v. last-from pair o (suc p) y v (omega arith) behind in
+      rw (tests i)
+      (by
+      (m .prohibited i)
+      (λ f. rw f (rest p (suc (2 * p)) (rw (some-place, here, f) (omega arith))))
+      (λ f. by (m .required i) (λ g. rw (f, g) (rest p (2 * p) (rw (some-place, here, f) (omega arith)))) (λ g. rw (f, g) (rest x best e))))
+    where
+      here : pair p ≡ i
+      here = let z : p + 0 ≡ p = omega arith in rw z at (at 0 (omega arith))
+
+      some-place : eqb p 0 ≡ false
+      some-place = ne-eqb p 0 (λ z. omega arith)
+
+      behind : (k : ℕ) → k < length o → pair (suc p + k) ≡ getD o k 0
+      behind k l = let z : suc p + k ≡ p + suc k = omega arith in rw z (at (suc k) (omega arith))
+
+  pub priority-last : (o : List ℕ) → priority m o ≡ decidedBy m (λ j. getD (0 ∷ o) j 0) (lastPosition either o)
+  priority-last o =
+      last-from (λ j. getD (0 ∷ o) j 0) o 1 0 1 (omega arith) (λ k l. let z : 1 + k ≡ suc k = omega arith in rw z) refl
 
 -- ---- a turn at position p, whose pair is i
 module _ (o : List ℕ) (p i : ℕ) (within : p ≤ length o) (here : i ≡ getD (0 ∷ o) p 0) where

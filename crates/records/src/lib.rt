@@ -3,6 +3,7 @@
 // over the record's places.
 ghost use mathlib.Core.Path.{_≡_};
 ghost use Prim.Native.Nat.{_≤_, _<_, _*_, _+_};
+ghost use lib.Dec.{eqb};
 ghost use lib.ListN.{getD};
 ghost use mathlib.Core.List.{_∷_};
 ghost use Rattle.rules.specs.Basics.{pick, keep, tabulate};
@@ -76,13 +77,13 @@ impl Record {
         last
     }
 
-    // The priority of an inside transition with these marks, by the record before the move.
+    // The priority of an inside transition with these marks, by the record before the move: the last pair with either mark decides.
     pub fn priority(self, prohibited: u8, required: u8) -> u8
         ensures { λ r. ⌜ r ≡ priority (marksIn prohibited required) (places (self .word)) ⌝ }
     {
-        let odd = 2 * self.last_marked(prohibited).0 + 1;
-        let even = 2 * self.last_marked(required).0;
-        if odd < even { even } else { odd }
+        let last = self.last_marked(prohibited | required);
+        let pair = pair_within(self.word, last);
+        decided(last, pair.is_in(prohibited))
     }
 
     // The record after the pairs of the set have moved to the front.
@@ -118,6 +119,26 @@ impl Record {
         }
         number
     }
+}
+
+// The pair at a position of the record, as `pair_at` gives it, without a branch.
+fn pair_within(word: u32, at: Position) -> PairNumber
+    requires { ⌜ at .0 ≤ limit ⌝ }
+    ensures { λ r. ⌜ r .0 ≡ getD (0 ∷ places word) (at .0) 0 ⌝ }
+{
+    let shift = 3 * at.0;
+    PairNumber((((8 * word as u64) >> shift) % 8) as u8)
+}
+
+// The priority that the pair at the last marked position makes, 1 where there is none.
+fn decided(last: Position, odd: bool) -> u8
+    requires { ⌜ last .0 ≤ limit ⌝ }
+    ensures { λ r. ⌜ r ≡ pick (eqb (last .0) 0) 1 (2 * last .0 + pick odd 1 0) ⌝ }
+{
+    if last.0 == 0 {
+        return 1;
+    }
+    2 * last.0 + odd as u8
 }
 
 // The word with the pair in front, where it goes there.

@@ -1,0 +1,581 @@
+//! The bench cards, the traps and the executable conditions of acceptance of document 01,
+//! run through the translator's C interface and compared with what the document says.
+
+use duckbullion::calls::{self, Judged, ParityTable, Translation};
+use duckbullion::plain::{self, Lent};
+
+/// The table T of document 01.
+const T: [u8; 16] = [2, 2, 2, 0, 0, 1, 0, 1, 1, 2, 0, 0, 0, 1, 2, 0];
+
+/// The listing that document 01 gives of T.
+const LISTING: &str = "\
+4 2 2
+0 0 12 0 0 4
+0 0 12 1 1 1
+1 1 12 0 0 2
+1 1 12 1 2 5
+2 1 21 0 3 4
+2 1 21 1 2 3
+3 0 21 0 0 5
+3 0 21 1 2 1
+";
+
+/// A table of one state from its pairs and, for each letter, whether it is there and its marks.
+fn one_state(pairs: u8, cells: &[Option<(u8, u8)>]) -> Vec<u8> {
+    let mut bytes = vec![1, cells.len() as u8, pairs, 0];
+    bytes.extend(
+        cells
+            .iter()
+            .map(|cell| if cell.is_some() { 0 } else { 255 }),
+    );
+    bytes.extend(cells.iter().flat_map(|cell| match cell {
+        Some((prohibited, required)) => [*prohibited, *required],
+        None => [0, 0],
+    }));
+    bytes
+}
+
+/// Arrays for a capacity and a number of letters with three entries more, all of them 9.
+fn nines(capacity: usize, letters: usize) -> Lent {
+    Lent {
+        targets: vec![9; capacity * letters + 3],
+        priorities: vec![9; capacity * letters + 3],
+        sources: vec![9; capacity + 3],
+        records: vec![9; capacity + 3],
+    }
+}
+
+/// Those arrays with the first rows 0.
+fn cleared(capacity: usize, letters: usize) -> Lent {
+    let mut lent = nines(capacity, letters);
+    lent.targets[..capacity * letters].fill(0);
+    lent.priorities[..capacity * letters].fill(0);
+    lent.sources[..capacity].fill(0);
+    lent.records[..capacity].fill(0);
+    lent
+}
+
+/// The arrays that T's listing demands for a capacity of at least 4.
+fn listed(capacity: usize) -> Lent {
+    let mut lent = cleared(capacity, 2);
+    for line in LISTING.lines().skip(1) {
+        let fields: Vec<u32> = line
+            .split(' ')
+            .map(|field| field.parse().unwrap())
+            .collect();
+        let [row, source, record, letter, target, priority] = fields[..] else {
+            panic!("a line has six fields")
+        };
+        let (row, cell) = (row as usize, (row * 2 + letter) as usize);
+        lent.sources[row] = source as u8;
+        lent.records[row] = record;
+        lent.targets[cell] = target as u16;
+        lent.priorities[cell] = priority as u8;
+    }
+    lent
+}
+
+/// Translates through the C interface into one bundle of lent arrays.
+fn translate(table: &[u8], capacity: usize, lent: &mut Lent) -> Translation {
+    let Lent {
+        targets,
+        priorities,
+        sources,
+        records,
+    } = lent;
+    calls::translate_table(table, capacity, targets, priorities, sources, records)
+}
+
+/// The translation of a table that has one.
+fn parity_of(table: &[u8]) -> ParityTable {
+    calls::translate(table, 4096).expect("the table is translated")
+}
+
+/// The answer of the Rabin judge, after both judges gave the same.
+fn judge(table: &[u8], lead: &[u8], looped: &[u8]) -> Judged {
+    let rabin = calls::judge_rabin(table, lead, looped);
+    let ParityTable {
+        letters,
+        targets,
+        priorities,
+        sources,
+        ..
+    } = parity_of(table);
+    let rows = sources.len();
+    assert_eq!(
+        calls::judge_parity(rows, letters, &targets, &priorities, lead, looped),
+        rabin
+    );
+    rabin
+}
+
+#[test]
+fn t_is_translated_as_listed() {
+    for capacity in [4, 5, 7, 1024, 4096] {
+        let mut lent = nines(capacity, 2);
+        let answer = translate(&T, capacity, &mut lent);
+        assert_eq!(answer, Translation { number: 0, rows: 4 });
+        assert_eq!(lent, listed(capacity));
+    }
+    let mut lent = nines(1024, 2);
+    assert_eq!(plain::list(&T, 1024, &mut lent), LISTING.as_bytes());
+}
+
+#[test]
+fn t_is_refused_8_with_capacity_3() {
+    for capacity in 1..=3 {
+        let mut lent = nines(capacity, 2);
+        assert_eq!(
+            translate(&T, capacity, &mut lent),
+            Translation { number: 8, rows: 0 }
+        );
+        assert_eq!(lent, cleared(capacity, 2));
+        assert_eq!(calls::translate(&T, capacity), Err(8));
+    }
+}
+
+#[test]
+fn capacity_and_arrays_are_refused_7() {
+    for capacity in [0, 4097, 65_536, usize::MAX / 2, usize::MAX] {
+        let mut lent = nines(4097, 2);
+        assert_eq!(
+            translate(&T, capacity, &mut lent),
+            Translation { number: 7, rows: 0 }
+        );
+        assert_eq!(lent, nines(4097, 2));
+        assert_eq!(calls::translate(&T, capacity), Err(7));
+    }
+    for short in 0..4 {
+        let mut lent = nines(4, 2);
+        match short {
+            0 => lent.targets.truncate(7),
+            1 => lent.priorities.truncate(7),
+            2 => lent.sources.truncate(3),
+            _ => lent.records.truncate(3),
+        }
+        let before = lent.clone();
+        assert_eq!(
+            translate(&T, 4, &mut lent),
+            Translation { number: 7, rows: 0 }
+        );
+        assert_eq!(lent, before);
+    }
+}
+
+/// Demands that every call that takes a table refuses it so and writes nothing.
+fn demand_refused(table: &[u8], number: u8) {
+    assert_eq!(calls::check_table(table), number);
+    let mut bytes = [9; 70];
+    assert_eq!(calls::find_components(table, &mut bytes), number);
+    let mut numbers = [9; 70];
+    assert_eq!(calls::survey_table(table, &mut numbers, &mut bytes), number);
+    assert!(bytes.iter().all(|&byte| byte == 9) && numbers.iter().all(|&entry| entry == 9));
+    let mut lent = nines(4, 2);
+    assert_eq!(
+        translate(table, 4, &mut lent),
+        Translation { number, rows: 0 }
+    );
+    assert_eq!(lent, nines(4, 2));
+    assert_eq!(
+        calls::judge_rabin(table, &[], &[0]),
+        Judged::Refused(number)
+    );
+    assert_eq!(
+        calls::judge_rabin(table, &[99], &[]),
+        Judged::Refused(number)
+    );
+}
+
+#[test]
+fn lengths_and_sizes_are_refused() {
+    for length in 0..16 {
+        demand_refused(&T[..length], 1);
+    }
+    let mut longer = T.to_vec();
+    longer.push(0);
+    demand_refused(&longer, 3);
+    for (place, sizes) in [(0, &[0, 65, 255]), (1, &[0, 17, 255]), (2, &[7, 8, 255])] {
+        for &size in sizes {
+            let mut table = T;
+            table[place] = size;
+            demand_refused(&table, 2);
+            demand_refused(&table[..4], 2);
+        }
+    }
+    for (place, value, number) in [(3, 2, 4), (5, 2, 5), (5, 254, 5), (9, 4, 6), (5, 255, 0)] {
+        let mut table = T;
+        table[place] = value;
+        if number == 0 {
+            assert_eq!(calls::check_table(&table), 0);
+            table[10] = 1;
+            demand_refused(&table, 6);
+        } else {
+            demand_refused(&table, number);
+        }
+    }
+}
+
+#[test]
+fn words_on_t() {
+    let cards: [(&[u8], Judged); 5] = [
+        (&[0], Judged::Accepts),
+        (&[1], Judged::Rejects),
+        (&[0, 1], Judged::Accepts),
+        (&[1, 1, 0], Judged::Accepts),
+        (&[1, 1, 0, 0], Judged::Rejects),
+    ];
+    for (looped, answer) in cards {
+        assert_eq!(judge(&T, &[], looped), answer, "loop {looped:?}");
+    }
+}
+
+#[test]
+fn refused_words() {
+    let most = vec![1; 65_535];
+    let more = vec![1; 65_536];
+    assert_eq!(judge(&T, &[], &[]), Judged::Refused(10));
+    assert_eq!(judge(&T, &[9], &[]), Judged::Refused(10));
+    assert_eq!(judge(&T, &more, &[9]), Judged::Refused(10));
+    assert_eq!(judge(&T, &[9], &more), Judged::Refused(10));
+    assert_eq!(judge(&T, &[2], &[0]), Judged::Refused(9));
+    assert_eq!(judge(&T, &[], &[0, 2]), Judged::Refused(9));
+    assert_eq!(judge(&T, &most, &most), Judged::Rejects);
+}
+
+#[test]
+fn records_move() {
+    // The last letter makes all pairs count; the others prohibit 3, 2 and 3, 2, 1 and 2.
+    let marks = [4, 6, 2, 3].map(|prohibited| Some((prohibited, 0)));
+    let table = one_state(3, &[&marks[..], &[Some((0, 7))]].concat());
+    let parity = parity_of(&table);
+    let next = |record: u32, letter: usize| {
+        let row = parity
+            .records
+            .iter()
+            .position(|&number| number == record)
+            .unwrap();
+        parity.records[usize::from(parity.targets[row * 5 + letter])]
+    };
+    assert_eq!(parity.records[0], 123);
+    assert_eq!(next(123, 0), 312);
+    assert_eq!(next(123, 1), 231);
+    assert_eq!(next(next(123, 2), 0), 321);
+    assert_eq!(next(321, 3), 213);
+}
+
+#[test]
+fn one_state_cards() {
+    let required = parity_of(&one_state(1, &[Some((0, 1))]));
+    assert_eq!((required.targets, required.priorities), (vec![0], vec![2]));
+    let both = parity_of(&one_state(1, &[Some((1, 1))]));
+    assert_eq!((both.targets, both.priorities), (vec![0], vec![3]));
+    let bare = one_state(0, &[Some((0, 0))]);
+    assert_eq!(parity_of(&bare).priorities, [1]);
+    assert_eq!(parity_of(&bare).records, [0]);
+    assert_eq!(judge(&bare, &[], &[0]), Judged::Rejects);
+}
+
+#[test]
+fn marks_of_a_crossing_are_ignored() {
+    let table = [2, 1, 1, 0, 1, 1, 1, 1, 0, 0];
+    let parity = parity_of(&table);
+    assert_eq!(parity.priorities, [1, 1]);
+    assert_eq!(parity.records, [0, 0]);
+    assert_eq!(parity.targets, [1, 1]);
+    let (mut inside, mut counted) = ([9; 3], [9; 3]);
+    assert_eq!(calls::survey_table(&table, &mut inside, &mut counted), 0);
+    assert_eq!((inside, counted), ([0, 1, 9], [0, 0, 9]));
+    let mut components = [9; 3];
+    assert_eq!(calls::find_components(&table, &mut components), 0);
+    assert_eq!(components, [0, 1, 9]);
+}
+
+#[test]
+fn runs_stop() {
+    let table = one_state(0, &[Some((0, 0)), None]);
+    assert_eq!(judge(&table, &[], &[0, 1]), Judged::Stops(1));
+    assert_eq!(judge(&table, &[0, 0], &[1]), Judged::Stops(2));
+    assert_eq!(judge(&table, &[], &[1]), Judged::Stops(0));
+    let parity = parity_of(&table);
+    assert_eq!(
+        (parity.targets, parity.priorities),
+        (vec![0, 65_535], vec![1, 0])
+    );
+}
+
+/// Letter 0 stays in its row, letter 1 goes to the next one, and the last row has no letter 1.
+fn stairs(rows: usize) -> (Vec<u16>, Vec<u8>) {
+    let mut targets: Vec<u16> = (0..rows as u16).flat_map(|row| [row, row + 1]).collect();
+    targets[2 * rows - 1] = 65_535;
+    (targets, vec![0; 2 * rows])
+}
+
+#[test]
+fn the_longest_runs_stop() {
+    let lead = vec![0; 65_535];
+    let mut looped = lead.clone();
+    looped[65_534] = 1;
+    let read = |rows: u32| Judged::Stops(65_535 + (rows - 1) * 65_535 + 65_534);
+    let (targets, priorities) = stairs(4096);
+    let answer = calls::judge_parity(4096, 2, &targets, &priorities, &lead, &looped);
+    assert_eq!(answer, read(4096));
+    let mut table = vec![64, 2, 0, 0];
+    table.extend((0..64).flat_map(|state| [state, state + 1]));
+    table[4 + 127] = 255;
+    table.extend([0; 256]);
+    assert_eq!(judge(&table, &lead, &looped), read(64));
+}
+
+#[test]
+fn a_state_may_return_after_several_passes() {
+    // Three states in a ring; only the transition from 2 to 0 satisfies the pair.
+    let table = [3, 1, 1, 0, 1, 2, 0, 0, 0, 0, 0, 0, 1];
+    assert_eq!(judge(&table, &[], &[0]), Judged::Accepts);
+    // One more state leads into the ring and prohibits the pair, once and for all before it.
+    let table = [4, 1, 1, 3, 1, 2, 0, 0, 0, 0, 0, 0, 0, 1, 1, 0];
+    assert_eq!(judge(&table, &[], &[0]), Judged::Accepts);
+}
+
+#[test]
+fn full_is_told_by_rows_reached() {
+    // 64 states and 6 pairs that count, but nothing prohibited: one record for each state.
+    let mut table = vec![64, 1, 6, 0];
+    table.extend((0..64).map(|state| (state + 1) % 64));
+    table.extend([0, 63].repeat(64));
+    assert_eq!(parity_of(&table).sources.len(), 64);
+    assert!(calls::translate(&table, 64).is_ok());
+    assert_eq!(calls::translate(&table, 63), Err(8));
+}
+
+#[test]
+fn rests_are_the_very_parts() {
+    let (lead, looped) = ([5, 6, 7], [8, 9]);
+    for place in [0, 1, 2, 3, 4, 5, 6, usize::MAX] {
+        let expected = match place {
+            0..=2 => &lead[place..],
+            3 | 4 => &looped[place - 3..],
+            _ => &looped[2..],
+        };
+        let rest = calls::rest_of(&lead, &looped, place);
+        assert_eq!(rest.as_ptr_range(), expected.as_ptr_range());
+    }
+    assert_eq!(calls::rest_of(&[], &[], 0), []);
+    assert_eq!(calls::rest_of(&lead, &[], 3), []);
+}
+
+/// A translator over one bundle of lent arrays.
+type Translator = fn(&[u8], usize, &mut Lent) -> Translation;
+
+/// A delivery: a translator and a Rabin judge.
+struct Delivery {
+    translate: Translator,
+    judge: fn(&[u8], &[u8], &[u8]) -> Judged,
+}
+
+/// The delivery under test.
+const DELIVERED: Delivery = Delivery {
+    translate,
+    judge: calls::judge_rabin,
+};
+
+/// The demands of document 01 that a delivery breaks on a few tables.
+fn broken(delivery: &Delivery) -> Vec<&'static str> {
+    let mut found = Vec::new();
+    let mut demand = |holds: bool, name| {
+        if !holds {
+            found.push(name);
+        }
+    };
+    let mut lent = nines(6, 2);
+    let answer = (delivery.translate)(&T, 6, &mut lent);
+    demand(
+        answer == Translation { number: 0, rows: 4 },
+        "demand 2: T has four rows",
+    );
+    demand(lent == listed(6), "demand 2: T's arrays");
+    let Lent {
+        targets,
+        priorities,
+        ..
+    } = &lent;
+    let parity = calls::judge_parity(answer.rows, 2, targets, priorities, &[], &[0, 1]);
+    demand(
+        parity == (delivery.judge)(&T, &[], &[0, 1]),
+        "demand 3: T's loop 0 1",
+    );
+    demand(
+        (delivery.judge)(&T, &[], &[0, 1]) == Judged::Accepts,
+        "the card of T's loop 0 1",
+    );
+
+    let stopping = one_state(0, &[Some((0, 0)), None]);
+    let mut lent = nines(1, 2);
+    let answer = (delivery.translate)(&stopping, 1, &mut lent);
+    demand(
+        answer == Translation { number: 0, rows: 1 },
+        "demand 2: one row",
+    );
+    demand(
+        lent.targets[..2] == [0, 65_535],
+        "demand 2: a missing transition",
+    );
+    let Lent {
+        targets,
+        priorities,
+        ..
+    } = &lent;
+    let parity = calls::judge_parity(answer.rows, 2, targets, priorities, &[0, 0], &[1]);
+    demand(
+        parity == (delivery.judge)(&stopping, &[0, 0], &[1]),
+        "demand 3: a stop",
+    );
+    demand(
+        (delivery.judge)(&stopping, &[0, 0], &[1]) == Judged::Stops(2),
+        "letters read",
+    );
+
+    let refused = (delivery.translate)(&T[..15], 4, &mut nines(4, 2));
+    demand(
+        refused == Translation { number: 1, rows: 0 },
+        "demand 1: refused 1",
+    );
+    let refused = (delivery.translate)(&T, 3, &mut nines(3, 2));
+    demand(
+        refused == Translation { number: 8, rows: 0 },
+        "demand 2: refused 8",
+    );
+    found
+}
+
+/// A translator that writes a correct first row and zeros.
+fn first_row_only(table: &[u8], capacity: usize, lent: &mut Lent) -> Translation {
+    let answer = plain::translate(table, capacity, lent);
+    if answer.number == 0 {
+        let letters = usize::from(table[1]);
+        lent.targets[letters..capacity * letters].fill(0);
+        lent.priorities[letters..capacity * letters].fill(0);
+        lent.sources[1..capacity].fill(0);
+        lent.records[1..capacity].fill(0);
+    }
+    answer
+}
+
+/// A translator that says full on opening.
+fn full_at_once(table: &[u8], capacity: usize, lent: &mut Lent) -> Translation {
+    let answer = plain::translate(table, capacity, lent);
+    let number = if answer.number == 0 { 8 } else { answer.number };
+    Translation { number, rows: 0 }
+}
+
+/// A translator that gives T's parity table for every rule.
+fn one_for_all(table: &[u8], capacity: usize, lent: &mut Lent) -> Translation {
+    match plain::check(table) {
+        0 => plain::translate(&T, capacity, lent),
+        number => Translation { number, rows: 0 },
+    }
+}
+
+/// A translator that refuses all.
+fn refusing(_: &[u8], _: usize, _: &mut Lent) -> Translation {
+    Translation { number: 1, rows: 0 }
+}
+
+/// A translator that leaves the arrays as lent.
+fn leaving(table: &[u8], capacity: usize, lent: &mut Lent) -> Translation {
+    plain::translate(table, capacity, &mut lent.clone())
+}
+
+/// A judge that counts the letter that it never read.
+fn counting(table: &[u8], lead: &[u8], looped: &[u8]) -> Judged {
+    match plain::judge_rabin(table, lead, looped) {
+        Judged::Stops(read) => Judged::Stops(read + 1),
+        other => other,
+    }
+}
+
+#[test]
+fn named_deliveries_break_a_statement() {
+    assert_eq!(broken(&DELIVERED), [""; 0]);
+    let translators: [(&str, Translator, &[&str]); 5] = [
+        (
+            "first row",
+            first_row_only,
+            &["demand 2: T's arrays", "demand 3: T's loop 0 1"],
+        ),
+        ("full", full_at_once, &["demand 2: T has four rows"]),
+        (
+            "one table",
+            one_for_all,
+            &["demand 2: one row", "demand 3: a stop"],
+        ),
+        (
+            "refusing",
+            refusing,
+            &["demand 2: T has four rows", "demand 2: refused 8"],
+        ),
+        ("leaving", leaving, &["demand 2: T's arrays"]),
+    ];
+    for (name, translate, demands) in translators {
+        let found = broken(&Delivery {
+            translate,
+            ..DELIVERED
+        });
+        for demand in demands {
+            assert!(found.contains(demand), "{name} breaks {found:?}");
+        }
+    }
+    let found = broken(&Delivery {
+        judge: counting,
+        ..DELIVERED
+    });
+    assert_eq!(found, ["demand 3: a stop", "letters read"]);
+}
+
+mod listing {
+    use super::*;
+
+    /// Lists through the C interface and gives the whole text's length.
+    fn list(table: &[u8], capacity: usize, lent: &mut Lent, out: &mut [u8]) -> usize {
+        let Lent {
+            targets,
+            priorities,
+            sources,
+            records,
+        } = lent;
+        calls::list_table(table, capacity, targets, priorities, sources, records, out)
+    }
+
+    #[test]
+    fn t_is_listed() {
+        for room in [0, 1, LISTING.len() - 1, LISTING.len(), LISTING.len() + 4] {
+            let (mut lent, mut out) = (nines(1024, 2), vec![9; room]);
+            assert_eq!(list(&T, 1024, &mut lent, &mut out), LISTING.len());
+            assert_eq!(lent, listed(1024));
+            let fits = room.min(LISTING.len());
+            assert_eq!(out[..fits], LISTING.as_bytes()[..fits]);
+            assert!(out[fits..].iter().all(|&byte| byte == 9));
+        }
+    }
+
+    #[test]
+    fn refusals_are_listed() {
+        for (length, capacity, text) in [(15, 4, "refused 1\n"), (16, 3, "refused 8\n")] {
+            let mut out = [9; 12];
+            assert_eq!(
+                list(&T[..length], capacity, &mut nines(capacity, 2), &mut out),
+                10
+            );
+            assert_eq!(out[..10], *text.as_bytes());
+            assert_eq!(out[10..], [9, 9]);
+        }
+    }
+
+    #[test]
+    fn empty_records_and_missing_transitions_are_dashes() {
+        let text = b"1 2 0\n0 0 - 0 0 1\n0 0 - 1 - -\n";
+        let table = one_state(0, &[Some((0, 0)), None]);
+        let mut out = [0; 40];
+        assert_eq!(list(&table, 1, &mut nines(1, 2), &mut out), text.len());
+        assert_eq!(out[..text.len()], text[..]);
+    }
+}
