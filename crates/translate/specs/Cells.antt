@@ -5,6 +5,7 @@
 --     targetIn, cellMarks w          the parts of a word;  prohibitedIn, requiredIn marks  the parts of marks
 --     cutMarks t q b               the pairs that pass b and count in q's component, as bits: bit i - 1 for pair i
 --     cellWord t q a               the word of the transition of q by a
+--     fewCells                     the cells for which the translator's small array is enough
 --     Cells t p cells              the words of the cells below p;  AllCells t cells  of all cells
 --     entryKey t q                 the key of the row by which a crossing enters at q;  Entries t keys  the same for each state
 use mathlib.Core.Path.{_≡_}
@@ -51,6 +52,9 @@ unfoldable pub cellWord : Table → ℕ → ℕ → ℕ
 cellWord t q a =
     pick (leb (t .states) (targetOf t q a)) 0
     (pick (isInside (systemOf t) q a) (insideWord (targetOf t q a) (cutMarks t q (prohibits t q a)) (cutMarks t q (requires t q a))) (crossingWord (targetOf t q a)))
+
+abbrev pub fewCells : ℕ
+fewCells = 64
 
 pub record Cells (t : Table) (p : ℕ) (cells : List ℕ) : Type 0 where
   pub enough : t .states * t .letters ≤ length cells

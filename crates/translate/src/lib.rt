@@ -16,13 +16,18 @@ mod index;
 mod keys;
 
 ghost use mathlib.Core.Path.{_≡_};
-ghost use Prim.Native.Nat.{_≤_};
+ghost use Prim.Native.Nat.{_*_, _≤_};
+ghost use lib.ListN.{length};
 ghost use Rattle.rules.specs.Limits.{maxLetters};
 ghost use Rattle.rules.specs.Says.{areShort, TranslateSays, TranslationAgrees};
 ghost use Rattle.rules.specs.Tables.{tableOf};
 ghost use Rattle.tables.specs.Parts.{Taken, statesOf, Listed};
 ghost use Rattle.tables.specs.Surveys.{insideLetters, countedPairs};
+ghost use Rattle.translate.specs.Cells.{fewCells};
 ghost use Rattle.translate.specs.Exploring.{Room, ExploreSays, keptRows};
+
+// The cells for which a small array of our own is enough.
+const FEW_CELLS: usize = 64;
 
 // The refusal or 0, and the number of rows, 0 on a refusal.
 #[repr(C)]
@@ -50,8 +55,66 @@ fn are_short(
     (targets < cells) | ((priorities < cells) | ((sources < capacity) | (records < capacity)))
 }
 
-// Finds the rows of a table that is taken, and writes them into arrays that have room.
-fn write_rows(
+// Finds the rows of a table that is taken, and writes them into arrays that have room. The words of the cells go into a lent array.
+fn rows_by(
+    table: &[u8],
+    inside: &[u16],
+    counted: &[u8],
+    words: &mut [u32],
+    capacity: usize,
+    sources: &mut [u8],
+    records: &mut [u32],
+    targets: &mut [u16],
+    priorities: &mut [u8],
+) -> usize
+    requires { ⌜ Taken (now table) × Listed (statesOf (now table)) (insideLetters (tableOf (now table))) (now inside) × Listed (statesOf (now table)) (countedPairs (tableOf (now table))) (now counted) × Room (now table) capacity (now targets) (now priorities) (now sources) (now records) × (statesOf (now table) * tableOf (now table) .letters ≤ length (now words)) ⌝ }
+    ensures { λ r. ⌜ ExploreSays (now (table .entry)) capacity (now (sources .entry)) (now (sources .exit)) (now (records .entry)) (now (records .exit)) (now (targets .entry)) (now (targets .exit)) (now (priorities .entry)) (now (priorities .exit)) r ⌝ }
+{
+    let mut entries = [0; MAX_STATES as usize];
+    cells::write_cells(table, inside, counted, words);
+    cells::write_entries(table, counted, &mut entries);
+    explore::find_rows(
+        table,
+        words,
+        &entries,
+        capacity,
+        sources,
+        records,
+        targets,
+        priorities,
+    )
+}
+
+// The same, with words of our own for few cells.
+fn rows_by_few(
+    table: &[u8],
+    inside: &[u16],
+    counted: &[u8],
+    capacity: usize,
+    sources: &mut [u8],
+    records: &mut [u32],
+    targets: &mut [u16],
+    priorities: &mut [u8],
+) -> usize
+    requires { ⌜ Taken (now table) × Listed (statesOf (now table)) (insideLetters (tableOf (now table))) (now inside) × Listed (statesOf (now table)) (countedPairs (tableOf (now table))) (now counted) × Room (now table) capacity (now targets) (now priorities) (now sources) (now records) × (statesOf (now table) * tableOf (now table) .letters ≤ fewCells) ⌝ }
+    ensures { λ r. ⌜ ExploreSays (now (table .entry)) capacity (now (sources .entry)) (now (sources .exit)) (now (records .entry)) (now (records .exit)) (now (targets .entry)) (now (targets .exit)) (now (priorities .entry)) (now (priorities .exit)) r ⌝ }
+{
+    let mut words = [0; FEW_CELLS];
+    rows_by(
+        table,
+        inside,
+        counted,
+        &mut words,
+        capacity,
+        sources,
+        records,
+        targets,
+        priorities,
+    )
+}
+
+// The same, with words of our own for as many cells as there can be.
+fn rows_by_many(
     table: &[u8],
     inside: &[u16],
     counted: &[u8],
@@ -65,13 +128,50 @@ fn write_rows(
     ensures { λ r. ⌜ ExploreSays (now (table .entry)) capacity (now (sources .entry)) (now (sources .exit)) (now (records .entry)) (now (records .exit)) (now (targets .entry)) (now (targets .exit)) (now (priorities .entry)) (now (priorities .exit)) r ⌝ }
 {
     let mut words = [0; MAX_STATES as usize * MAX_LETTERS as usize];
-    let mut entries = [0; MAX_STATES as usize];
-    cells::write_cells(table, inside, counted, &mut words);
-    cells::write_entries(table, counted, &mut entries);
-    explore::find_rows(
+    rows_by(
         table,
-        &words,
-        &entries,
+        inside,
+        counted,
+        &mut words,
+        capacity,
+        sources,
+        records,
+        targets,
+        priorities,
+    )
+}
+
+// The same, for any table that is taken. For few cells clearing all words would take longer than the rest.
+fn write_rows(
+    table: &[u8],
+    inside: &[u16],
+    counted: &[u8],
+    capacity: usize,
+    sources: &mut [u8],
+    records: &mut [u32],
+    targets: &mut [u16],
+    priorities: &mut [u8],
+) -> usize
+    requires { ⌜ Taken (now table) × Listed (statesOf (now table)) (insideLetters (tableOf (now table))) (now inside) × Listed (statesOf (now table)) (countedPairs (tableOf (now table))) (now counted) × Room (now table) capacity (now targets) (now priorities) (now sources) (now records) ⌝ }
+    ensures { λ r. ⌜ ExploreSays (now (table .entry)) capacity (now (sources .entry)) (now (sources .exit)) (now (records .entry)) (now (records .exit)) (now (targets .entry)) (now (targets .exit)) (now (priorities .entry)) (now (priorities .exit)) r ⌝ }
+{
+    let cells = table[0] as usize * table[1] as usize;
+    if cells <= FEW_CELLS {
+        return rows_by_few(
+            table,
+            inside,
+            counted,
+            capacity,
+            sources,
+            records,
+            targets,
+            priorities,
+        );
+    }
+    rows_by_many(
+        table,
+        inside,
+        counted,
         capacity,
         sources,
         records,

@@ -1,36 +1,27 @@
--- `translate::write_rows` meets its contract: the exploration's, with the words of the cells and the keys of the entries.
+-- `translate::write_rows` meets its contract, with either array of words.
 use native.Mathlib.Omega.{arith}
 use borrow.Author.Needs.{needs}
 use Rattle.rules.proofs.Refusals.{taken-table}
 use Rattle.translate.proofs.write_rows.Statement.{statement}
 use Rattle.translate.proofs.write_rows.Tie as tie
 
-slice-aggregate-write-cells : tie.Need-slice-aggregate-write-cells
-slice-aggregate-write-cells c = search needs
+shared-slice-read-cells : tie.Need-shared-slice-read-cells
+shared-slice-read-cells c = omega (arith, taken-table _ (c .before .before .before .before .before .before .before .before .pre .0))
 
-write-cells-requires : tie.Need-write-cells-requires
-write-cells-requires c κs =
-    let s = c .before .before .before .before .before .before .before .before in (s .pre .0, s .pre .1, s .pre .2, omega (arith, taken-table _ (s .pre .0)))
+cast-cells : tie.Need-cast-cells
+cast-cells c = search needs
 
-slice-aggregate-write-entries : tie.Need-slice-aggregate-write-entries
-slice-aggregate-write-entries c = search needs
+shared-slice-read-cells-2 : tie.Need-shared-slice-read-cells-2
+shared-slice-read-cells-2 c = omega (arith, taken-table _ (c .before .before .before .before .before .before .before .before .before .pre .0))
 
-write-entries-requires : tie.Need-write-entries-requires
-write-entries-requires c κs =
-    let s = c .before .before .before .before .before .before .before .before .before .before .before in (s .pre .0, s .pre .2, omega (arith, taken-table _ (s .pre .0)))
+cast-cells-2 : tie.Need-cast-cells-2
+cast-cells-2 c = omega (arith, taken-table _ (c .before .before .before .before .before .before .before .before .before .pre .0))
 
-slice-aggregate-find-rows : tie.Need-slice-aggregate-find-rows
-slice-aggregate-find-rows c = search needs
+mul-cells : tie.Need-mul-cells
+mul-cells c = omega (arith, taken-table _ (c .before .before .before .before .before .before .before .before .before .pre .0))
 
-slice-aggregate-find-rows-2 : tie.Need-slice-aggregate-find-rows-2
-slice-aggregate-find-rows-2 c = search needs
-
-find-rows-requires : tie.Need-find-rows-requires
-find-rows-requires c κs =
-    let s = c .before .before .before .before .before .before .before .before .before .before .before .before .before .before .before .before .before .before .before in
-    let w : tie.After-write-entries = c .before .before .before .before .before .before .before in
-    let v : tie.After-write-cells = c .before .before .before .before .before .before .before .before .before .before in
-    (s .pre .0, v .write-cells .ensures, w .write-entries .ensures, s .pre .3)
+rows-by-few-requires : tie.Need-rows-by-few-requires
+rows-by-few-requires c κs = search needs
 
 same-length : tie.Need-same-length
 same-length c = search needs
@@ -45,21 +36,44 @@ same-length-4 : tie.Need-same-length-4
 same-length-4 c = search needs
 
 returns : tie.Need-returns
-returns c = c .before .before .before .before .before .before .before .before .find-rows .ensures
+returns c = search needs
+
+rows-by-many-requires : tie.Need-rows-by-many-requires
+rows-by-many-requires c κs = search needs
+
+same-length-5 : tie.Need-same-length-5
+same-length-5 c = search needs
+
+same-length-6 : tie.Need-same-length-6
+same-length-6 c = search needs
+
+same-length-7 : tie.Need-same-length-7
+same-length-7 c = search needs
+
+same-length-8 : tie.Need-same-length-8
+same-length-8 c = search needs
+
+returns-2 : tie.Need-returns-2
+returns-2 c = search needs
 
 pub write-rows-spec : {M : Type 1} → statement M
 write-rows-spec =
     tie.close
     (tie.spec
-    slice-aggregate-write-cells
-    write-cells-requires
-    slice-aggregate-write-entries
-    write-entries-requires
-    slice-aggregate-find-rows
-    slice-aggregate-find-rows-2
-    find-rows-requires
+    shared-slice-read-cells
+    cast-cells
+    shared-slice-read-cells-2
+    cast-cells-2
+    mul-cells
+    rows-by-few-requires
     same-length
     same-length-2
     same-length-3
     same-length-4
-    returns)
+    returns
+    rows-by-many-requires
+    same-length-5
+    same-length-6
+    same-length-7
+    same-length-8
+    returns-2)
