@@ -439,6 +439,13 @@ fn broken(delivery: &Delivery) -> Vec<&'static str> {
         refused == Translation { number: 1, rows: 0 },
         "demand 1: refused 1",
     );
+    let mut longer = T.to_vec();
+    longer.push(0);
+    let refused = (delivery.translate)(&longer, 4, &mut nines(4, 2));
+    demand(
+        refused == Translation { number: 3, rows: 0 },
+        "demand 1: refused 3",
+    );
     let refused = (delivery.translate)(&T, 3, &mut nines(3, 2));
     demand(
         refused == Translation { number: 8, rows: 0 },
@@ -493,6 +500,54 @@ fn counting(table: &[u8], lead: &[u8], looped: &[u8]) -> Judged {
     }
 }
 
+/// A parity table is refused by each of its conditions, in its turn, and by nothing else.
+#[test]
+fn parity_tables_are_refused_11() {
+    let judge = |rows: usize, letters: usize, targets: &[u16], priorities: &[u8]| {
+        calls::judge_parity(rows, letters, targets, priorities, &[], &[0])
+    };
+    let targets = vec![0; 4_097 * 17];
+    let priorities = vec![0; 4_097 * 17];
+    assert_eq!(judge(1, 1, &targets, &priorities), Judged::Accepts);
+    assert_eq!(judge(4_096, 16, &targets, &priorities), Judged::Accepts);
+    for (rows, letters) in [(0, 1), (4_097, 1), (1, 0), (1, 17), (usize::MAX, 16)] {
+        assert_eq!(
+            judge(rows, letters, &targets, &priorities),
+            Judged::Refused(11)
+        );
+    }
+    assert_eq!(
+        judge(3, 2, &targets[..6], &priorities[..6]),
+        Judged::Accepts
+    );
+    assert_eq!(
+        judge(3, 2, &targets[..5], &priorities[..6]),
+        Judged::Refused(11)
+    );
+    assert_eq!(
+        judge(3, 2, &targets[..6], &priorities[..5]),
+        Judged::Refused(11)
+    );
+    for (target, place, answer) in [
+        (2, 5, Judged::Accepts),
+        (3, 5, Judged::Refused(11)),
+        (65_534, 5, Judged::Refused(11)),
+        (65_535, 5, Judged::Accepts),
+        (65_535, 0, Judged::Stops(0)),
+        (3, 6, Judged::Accepts),
+    ] {
+        let mut cells = vec![0; 7];
+        cells[place] = target;
+        assert_eq!(judge(3, 2, &cells, &priorities[..7]), answer);
+    }
+    // 11 comes before 10, and 10 before 9.
+    let word =
+        |rows, looped: &[u8]| calls::judge_parity(rows, 1, &targets, &priorities, &[1], looped);
+    assert_eq!(word(0, &[]), Judged::Refused(11));
+    assert_eq!(word(1, &[]), Judged::Refused(10));
+    assert_eq!(word(1, &[0]), Judged::Refused(9));
+}
+
 #[test]
 fn named_deliveries_break_a_statement() {
     assert_eq!(broken(&DELIVERED), [""; 0]);
@@ -511,7 +566,11 @@ fn named_deliveries_break_a_statement() {
         (
             "refusing",
             refusing,
-            &["demand 2: T has four rows", "demand 2: refused 8"],
+            &[
+                "demand 1: refused 3",
+                "demand 2: T has four rows",
+                "demand 2: refused 8",
+            ],
         ),
         ("leaving", leaving, &["demand 2: T's arrays"]),
     ];

@@ -17,7 +17,7 @@
 --     moved-unmarked, priority-unmarked     the move and the priority where nothing is marked
 --     last-within              the last position of a marked pair lies within the record
 --     marked-either            a pair of two sets together
---     decidedBy, priority-last     the priority, from the last position of a pair with either mark
+--     decidedBy, priority-decided     the priority, from the last position of a pair with either mark
 --     kept-turn, width-turn, last-turn, digit-turn     a turn at one position
 --     digit-below              a number with one digit more stays below the next power of ten
 use mathlib.Core.Path.{_≡_, refl, sym, ap, ap₂, _∙_}
@@ -305,8 +305,8 @@ module _ (m : Marks) (either : ℕ → Bool) (tests : (i : ℕ) → either i ≡
       behind : (k : ℕ) → k < length o → pair (suc p + k) ≡ getD o k 0
       behind k l = let z : suc p + k ≡ p + suc k = omega arith in rw z (at (suc k) (omega arith))
 
-  pub priority-last : (o : List ℕ) → priority m o ≡ decidedBy m (λ j. getD (0 ∷ o) j 0) (lastPosition either o)
-  priority-last o =
+  pub priority-decided : (o : List ℕ) → priority m o ≡ decidedBy m (λ j. getD (0 ∷ o) j 0) (lastPosition either o)
+  priority-decided o =
       last-from (λ j. getD (0 ∷ o) j 0) o 1 0 1 (omega arith) (λ k l. let z : 1 + k ≡ suc k = omega arith in rw z) refl
 
 -- ---- a turn at position p, whose pair is i

@@ -8,7 +8,7 @@ use borrow.Author.Needs.{needs}
 use lib.Bits.{bitOr}
 use Rattle.rules.specs.Records.{Marks}
 use Rattle.records.specs.Words.{limit, isMarked, marksIn, places}
-use Rattle.records.proofs.Packing.{last-within, priority-last, marked-either}
+use Rattle.records.proofs.Packing.{last-within, priority-decided, marked-either}
 use Rattle.records.proofs.Record.priority.Statement.{statement}
 use Rattle.records.proofs.Record.priority.Tie as tie
 
@@ -47,7 +47,7 @@ returns c =
     c .decided .ensures
     ∙ rw
     (c .before .is-in .ensures, c .before .before .pair-within .ensures, l .last-marked .ensures)
-    (sym (priority-last (marks l) (in-either l) (marked-either (start l .args .prohibited) (start l .args .required)) (record-places l)))
+    (sym (priority-decided (marks l) (in-either l) (marked-either (start l .args .prohibited) (start l .args .required)) (record-places l)))
 
 pub priority-spec : {M : Type 1} → statement M
 priority-spec =
