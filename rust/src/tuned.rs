@@ -1,17 +1,17 @@
-//! A tuned implementation of document 01's translator and judges, in safe Rust with the
-//! standard library only, made for speed and measured against the proved library.
+//! The tuned conventional implementation of document 01's translator and judges, in safe Rust
+//! with the standard library only.
 //!
-//! `translate_table` keeps records packed in a word and finds rows by a hashed index;
-//! `translate_by_orders` numbers the orders of six pairs instead, with all moves tabulated when
-//! compiled. In both, letters of a state with the same target and marks are worked out once.
+//! A record is packed in a word, three bits a pair; it stays as it is when a transition prohibits
+//! nothing that counts; rows are found by an open-addressing index; the judges stop at the first
+//! pass of the loop that begins where one began. `specialised` goes beyond and builds on this.
 
 use crate::calls::{Judged, Translation};
 
 /// The byte that stands for a missing transition in a Rabin table.
-const NO_TARGET: u8 = 255;
+pub(crate) const NO_TARGET: u8 = 255;
 
 /// The number that stands for a missing transition in a parity table.
-const NO_ROW: u16 = 65_535;
+pub(crate) const NO_ROW: u16 = 65_535;
 
 /// The largest capacity a caller may state.
 const MOST_ROWS: usize = 4_096;
@@ -20,16 +20,16 @@ const MOST_ROWS: usize = 4_096;
 const LONGEST: usize = 65_535;
 
 /// A checked Rabin table, its parts as slices of the caller's bytes.
-struct Rabin<'a> {
-    states: usize,
-    letters: usize,
-    start: usize,
-    targets: &'a [u8],
-    marks: &'a [u8],
+pub(crate) struct Rabin<'a> {
+    pub(crate) states: usize,
+    pub(crate) letters: usize,
+    pub(crate) start: usize,
+    pub(crate) targets: &'a [u8],
+    pub(crate) marks: &'a [u8],
 }
 
 /// Checks a table in the order of the refusals and takes it apart.
-fn check_table(table: &[u8]) -> Result<Rabin<'_>, u8> {
+pub(crate) fn check_table(table: &[u8]) -> Result<Rabin<'_>, u8> {
     let [states, letters, pairs, start, cells @ ..] = table else {
         return Err(1);
     };
@@ -72,7 +72,7 @@ fn check_table(table: &[u8]) -> Result<Rabin<'_>, u8> {
 }
 
 /// Finds each state's component as a set of states, by bags of states on one path.
-fn components(rabin: &Rabin) -> [u64; 64] {
+pub(crate) fn components(rabin: &Rabin) -> [u64; 64] {
     let mut follows = [0u64; 64];
     for (set, row) in follows
         .iter_mut()
@@ -132,7 +132,7 @@ fn components(rabin: &Rabin) -> [u64; 64] {
 }
 
 /// Gives each state the pairs that count in its component.
-fn counted_pairs(rabin: &Rabin, component: &[u64; 64]) -> [u8; 64] {
+pub(crate) fn counted_pairs(rabin: &Rabin, component: &[u64; 64]) -> [u8; 64] {
     let m = rabin.letters;
     let mut counted = [0u8; 64];
     let rows = rabin
@@ -155,98 +155,17 @@ fn counted_pairs(rabin: &Rabin, component: &[u64; 64]) -> [u8; 64] {
     counted
 }
 
-/// The different transitions of each state: letters with the same target and marks share one.
-struct Edges<E> {
-    letters: usize,
-    list: Vec<E>,
-    of_cell: [u8; 1024],
-    counts: [u8; 64],
-}
-
-impl<E: Copy> Edges<E> {
-    /// Groups each state's letters and makes one edge for every group, in order of first letters.
-    fn new(rabin: &Rabin, empty: E, make: impl Fn(usize, u8, u8, u8) -> E) -> Edges<E> {
-        let m = rabin.letters;
-        let mut list = vec![empty; rabin.states * m];
-        let mut of_cell = [0u8; 1024];
-        let mut counts = [0u8; 64];
-        let rows = rabin
-            .targets
-            .chunks_exact(m)
-            .zip(rabin.marks.chunks_exact(2 * m));
-        let groups = list
-            .chunks_exact_mut(m)
-            .zip(of_cell.chunks_exact_mut(m))
-            .zip(&mut counts);
-        for (q, ((row, marks), ((edges, of_letter), total))) in rows.zip(groups).enumerate() {
-            let mut keys = [0u32; 16];
-            let mut guess = [0u8; 32];
-            let mut count = 0;
-            let letters = row.iter().zip(marks.chunks_exact(2)).zip(of_letter);
-            for ((&t, mark), group) in letters {
-                let key = u32::from_le_bytes([t, mark[0], mark[1], 1]);
-                let place = &mut guess[(key.wrapping_mul(0x9E37_79B1) >> 27) as usize];
-                let old = *place & 15;
-                if keys[old as usize] == key {
-                    *group = old;
-                } else {
-                    *place = count as u8;
-                    *group = count as u8;
-                    keys[count & 15] = key;
-                    edges[count] = make(q, t, mark[0], mark[1]);
-                    count += 1;
-                }
-            }
-            *total = count as u8;
-        }
-        Edges {
-            letters: m,
-            list,
-            of_cell,
-            counts,
-        }
-    }
-
-    /// The edges of a state.
-    #[inline(always)]
-    fn of_state(&self, q: usize) -> &[E] {
-        &self.list[q * self.letters..][..self.counts[q & 63] as usize]
-    }
-
-    /// Writes what the edges of a state gave under each of their letters.
-    #[inline(always)]
-    fn deal(&self, q: usize, found: &Found, targets: &mut [u16], priorities: &mut [u8]) {
-        let m = self.letters;
-        if self.counts[q & 63] as usize == m {
-            targets.copy_from_slice(&found.rows[..m]);
-            priorities.copy_from_slice(&found.priorities[..m]);
-        } else {
-            let groups = &self.of_cell[q * m..][..m];
-            for ((t, p), &group) in targets.iter_mut().zip(priorities).zip(groups) {
-                *t = found.rows[group as usize & 15];
-                *p = found.priorities[group as usize & 15];
-            }
-        }
-    }
-}
-
-/// The rows and priorities to which the edges of one row lead.
-struct Found {
-    rows: [u16; 16],
-    priorities: [u8; 16],
-}
-
 /// The four lent arrays, cut to the capacity.
-struct Lent<'a> {
-    targets: &'a mut [u16],
-    priorities: &'a mut [u8],
-    sources: &'a mut [u8],
-    records: &'a mut [u32],
+pub(crate) struct Lent<'a> {
+    pub(crate) targets: &'a mut [u16],
+    pub(crate) priorities: &'a mut [u8],
+    pub(crate) sources: &'a mut [u8],
+    pub(crate) records: &'a mut [u32],
 }
 
 /// Checks table and arrays, lets `explore` fill rows, and clears the others.
 #[inline(always)]
-fn translate_by(
+pub(crate) fn translate_by(
     explore: impl Fn(&Rabin, &mut Lent) -> Option<usize>,
     table: &[u8],
     capacity: usize,
@@ -284,7 +203,7 @@ fn translate_by(
     }
 }
 
-/// Translates a Rabin table into lent arrays, with packed records and a hashed index.
+/// Translates a Rabin table into lent arrays.
 pub fn translate_table(
     table: &[u8],
     capacity: usize,
@@ -299,47 +218,108 @@ pub fn translate_table(
         sources,
         records,
     };
-    translate_by(explore_packed, table, capacity, lent)
-}
-
-/// Translates as `translate_table` does, with all orders of six pairs tabulated beforehand.
-pub fn translate_by_orders(
-    table: &[u8],
-    capacity: usize,
-    targets: &mut [u16],
-    priorities: &mut [u8],
-    sources: &mut [u8],
-    records: &mut [u32],
-) -> Translation {
-    let lent = Lent {
-        targets,
-        priorities,
-        sources,
-        records,
-    };
-    translate_by(explore_orders, table, capacity, lent)
+    translate_by(explore, table, capacity, lent)
 }
 
 /// The bits of a row's key below its state: a packed record, three bits a pair.
 const RECORD_BITS: u32 = 18;
 
+/// The most pairs that a record has.
+const MOST_PAIRS: u32 = RECORD_BITS / 3;
+
 /// How a transition leads on.
 #[derive(Clone, Copy)]
-enum Kind {
+pub(crate) enum Kind {
     Missing,
     Crossing,
     Inside,
 }
 
-/// A transition for packed records: its target's key so far, its counted marks, and the bits
-/// that the prohibited pairs take in a record.
+/// A transition prepared for packed records: its target's key so far, its counted marks, and the
+/// bits that the prohibited pairs take in a record.
 #[derive(Clone, Copy)]
-struct PackedEdge {
+pub(crate) struct Cell {
     key: u32,
     prohibited: u8,
     either: u8,
     width: u8,
     kind: Kind,
+}
+
+/// The cell of a missing transition.
+pub(crate) const NO_CELL: Cell = Cell {
+    key: 0,
+    prohibited: 0,
+    either: 0,
+    width: 0,
+    kind: Kind::Missing,
+};
+
+/// What the states of a table have: component, counted pairs, and the key of the first record.
+pub(crate) struct Survey {
+    component: [u64; 64],
+    counted: [u8; 64],
+    first: [u32; 64],
+}
+
+impl Survey {
+    /// Surveys a table.
+    pub(crate) fn new(rabin: &Rabin) -> Survey {
+        let component = components(rabin);
+        let counted = counted_pairs(rabin, &component);
+        let mut first = [0u32; 64];
+        for q in 0..rabin.states {
+            first[q] = (q as u32) << RECORD_BITS | rising(counted[q]);
+        }
+        Survey {
+            component,
+            counted,
+            first,
+        }
+    }
+
+    /// The key of the first row that a run has at a state.
+    pub(crate) fn first(&self, q: usize) -> u32 {
+        self.first[q & 63]
+    }
+
+    /// Prepares the transition of a state with a target byte and two marks.
+    #[inline(always)]
+    pub(crate) fn cell(&self, q: usize, t: u8, prohibited: u8, required: u8) -> Cell {
+        if t == NO_TARGET {
+            NO_CELL
+        } else if self.component[q & 63] >> (t & 63) & 1 == 1 {
+            let prohibited = prohibited & self.counted[q & 63];
+            Cell {
+                key: (t as u32) << RECORD_BITS,
+                prohibited,
+                either: prohibited | required & self.counted[q & 63],
+                width: 3 * prohibited.count_ones() as u8,
+                kind: Kind::Inside,
+            }
+        } else {
+            Cell {
+                key: self.first[t as usize & 63],
+                kind: Kind::Crossing,
+                ..NO_CELL
+            }
+        }
+    }
+
+    /// Prepares all transitions of a table.
+    fn cells(&self, rabin: &Rabin) -> Vec<Cell> {
+        let m = rabin.letters;
+        let mut cells = Vec::with_capacity(rabin.targets.len());
+        let rows = rabin
+            .targets
+            .chunks_exact(m)
+            .zip(rabin.marks.chunks_exact(2 * m));
+        for (q, (row, marks)) in rows.enumerate() {
+            let letters = row.iter().zip(marks.chunks_exact(2));
+            cells.extend(letters.map(|(&t, mark)| self.cell(q, t, mark[0], mark[1])));
+        }
+        cells
+    }
 }
 
 /// An open-addressing index of row numbers plus one, which grows when a quarter full.
@@ -385,39 +365,47 @@ impl Index {
     }
 }
 
-/// Packs the pairs of a set in rising order.
+/// Packs the pairs of a set in rising order; positions beyond them hold 7, which is no pair.
 fn rising(mut set: u8) -> u32 {
-    let (mut record, mut at) = (0, 0);
+    let (mut record, mut at) = ((1 << RECORD_BITS) - 1, 0);
     while set != 0 {
-        record |= set.trailing_zeros() << at;
+        record ^= (7 ^ set.trailing_zeros()) << at;
         at += 3;
         set &= set - 1;
     }
     record
 }
 
-/// Moves the prohibited pairs of a record of `L` pairs to the front and works out the priority.
+/// Moves the prohibited pairs of a record to the front and works out the priority, looking at so
+/// many positions as there are `rounds`; beyond them the record has no pairs.
 #[inline(always)]
-fn step<const L: u32>(record: u32, edge: &PackedEdge) -> (u32, u8) {
-    let (prohibited, either) = (edge.prohibited as u32, edge.either as u32);
-    let mut priority = 1;
-    for position in 0..L {
-        let bit = 1 << (record >> (3 * position) & 7);
-        let last = 2 * position + 2 + (prohibited & bit != 0) as u32;
-        priority = if either & bit != 0 { last } else { priority };
+fn step(record: u32, rounds: u32, cell: &Cell) -> (u32, u8) {
+    let (prohibited, either) = (cell.prohibited as u32, cell.either as u32);
+    if either == 0 {
+        return (record, 1);
     }
+    let mut priority = 1;
     if prohibited == 0 {
+        for position in 0..rounds {
+            let bit = 1 << (record >> (3 * position) & 7);
+            let last = 2 * position + 2;
+            priority = if either & bit != 0 { last } else { priority };
+        }
         return (record, priority as u8);
     }
-    let (mut front, mut back) = (0, 0);
-    for position in (0..L).rev() {
+    let (mut front, mut back) = (0, record >> (3 * rounds));
+    for position in (0..rounds).rev() {
         let pair = record >> (3 * position) & 7;
-        let hit = prohibited & (1 << pair) != 0;
+        let bit = 1 << pair;
+        let hit = prohibited & bit != 0;
+        let last = 2 * position + 2 + hit as u32;
+        let found = (either & bit != 0) & (priority == 1);
+        priority = if found { last } else { priority };
         let (fronted, backed) = (front << 3 | pair, back << 3 | pair);
         front = if hit { fronted } else { front };
         back = if hit { back } else { backed };
     }
-    (front | back << (edge.width & 31), priority as u8)
+    (front | back << (cell.width & 31), priority as u8)
 }
 
 /// Reads a packed record as one decimal number of pair numbers.
@@ -425,368 +413,139 @@ fn packed_decimal(record: u32, length: u32) -> u32 {
     (0..length).fold(0, |number, i| 10 * number + (record >> (3 * i) & 7) + 1)
 }
 
-/// Takes the edges of one row, whose record has `L` pairs, and adds the rows it discovers;
-/// answers whether they fit.
-#[inline(never)]
-fn take_row<const L: u32>(
-    record: u32,
-    edges: &[PackedEdge],
-    index: &mut Index,
-    keys: &mut [u32],
-    rows: &mut usize,
-    found: &mut Found,
-) -> bool {
-    for (i, edge) in edges.iter().enumerate() {
-        let (key, priority) = match edge.kind {
-            Kind::Missing => {
-                found.rows[i & 15] = NO_ROW;
-                found.priorities[i & 15] = 0;
-                continue;
-            }
-            Kind::Crossing => (edge.key, 1),
-            Kind::Inside => {
-                let (next, priority) = step::<L>(record, edge);
-                (edge.key | next, priority)
-            }
-        };
-        found.priorities[i & 15] = priority;
-        let place = index.place(key, keys);
-        let slot = index.slots[place];
-        if slot != 0 {
-            found.rows[i & 15] = slot - 1;
-            continue;
-        }
-        if *rows == keys.len() {
-            return false;
-        }
-        keys[*rows] = key;
-        index.slots[place] = *rows as u16 + 1;
-        found.rows[i & 15] = *rows as u16;
-        *rows += 1;
-        if *rows == index.room && *rows < keys.len() {
-            index.grow(&keys[..*rows]);
-        }
-    }
-    true
+/// The rows found so far: their keys, which lie in the lent record numbers until the end, how many
+/// they are, and the index that finds them.
+pub(crate) struct Rows<'a> {
+    keys: &'a mut [u32],
+    count: usize,
+    index: Index,
 }
 
-/// Fills the rows in order of discovery with packed records, or gives up when they don't fit;
-/// until the end the lent record numbers hold the rows' keys.
-fn explore_packed(rabin: &Rabin, lent: &mut Lent) -> Option<usize> {
-    let m = rabin.letters;
-    let component = components(rabin);
-    let counted = counted_pairs(rabin, &component);
-    let mut first = [0u32; 64];
-    for q in 0..rabin.states {
-        first[q] = (q as u32) << RECORD_BITS | rising(counted[q]);
+impl<'a> Rows<'a> {
+    /// The first row alone.
+    pub(crate) fn new(keys: &'a mut [u32], key: u32) -> Rows<'a> {
+        let mut index = Index::new(6);
+        keys[0] = key;
+        let place = index.place(key, keys);
+        index.slots[place] = 1;
+        Rows {
+            keys,
+            count: 1,
+            index,
+        }
     }
-    let none = PackedEdge {
-        key: 0,
-        prohibited: 0,
-        either: 0,
-        width: 0,
-        kind: Kind::Missing,
-    };
-    let edges = Edges::new(rabin, none, |q, t, prohibited, required| {
-        if t == NO_TARGET {
-            none
-        } else if component[q & 63] >> (t & 63) & 1 == 1 {
-            let prohibited = prohibited & counted[q & 63];
-            PackedEdge {
-                key: (t as u32) << RECORD_BITS,
-                prohibited,
-                either: prohibited | required & counted[q & 63],
-                width: 3 * prohibited.count_ones() as u8,
-                kind: Kind::Inside,
-            }
-        } else {
-            PackedEdge {
-                key: first[t as usize & 63],
-                kind: Kind::Crossing,
-                ..none
-            }
+
+    /// Finds the row of a key or adds it, if there is room.
+    #[inline(always)]
+    fn row_of(&mut self, key: u32) -> Option<u16> {
+        let place = self.index.place(key, self.keys);
+        let slot = self.index.slots[place];
+        if slot != 0 {
+            return Some(slot - 1);
         }
-    });
-    let keys = &mut *lent.records;
-    let mut index = Index::new(6);
-    keys[0] = first[rabin.start];
-    let place = index.place(keys[0], keys);
-    index.slots[place] = 1;
-    let mut rows = 1;
-    let mut found = Found {
-        rows: [0; 16],
-        priorities: [0; 16],
-    };
-    let places = lent
-        .targets
-        .chunks_exact_mut(m)
-        .zip(lent.priorities.chunks_exact_mut(m));
-    for (row, (targets, priorities)) in places.enumerate() {
-        if row == rows {
-            break;
-        }
-        let q = (keys[row] >> RECORD_BITS) as usize & 63;
-        let record = keys[row] & ((1 << RECORD_BITS) - 1);
-        let mine = edges.of_state(q);
-        let fits = match counted[q].count_ones() {
-            0 => take_row::<0>(record, mine, &mut index, keys, &mut rows, &mut found),
-            1 => take_row::<1>(record, mine, &mut index, keys, &mut rows, &mut found),
-            2 => take_row::<2>(record, mine, &mut index, keys, &mut rows, &mut found),
-            3 => take_row::<3>(record, mine, &mut index, keys, &mut rows, &mut found),
-            4 => take_row::<4>(record, mine, &mut index, keys, &mut rows, &mut found),
-            5 => take_row::<5>(record, mine, &mut index, keys, &mut rows, &mut found),
-            _ => take_row::<6>(record, mine, &mut index, keys, &mut rows, &mut found),
-        };
-        if !fits {
+        let row = self.count;
+        if row == self.keys.len() {
             return None;
         }
-        edges.deal(q, &found, targets, priorities);
-    }
-    for (source, key) in lent.sources.iter_mut().zip(keys).take(rows) {
-        *source = (*key >> RECORD_BITS) as u8;
-        *key = packed_decimal(*key, counted[*source as usize & 63].count_ones());
-    }
-    Some(rows)
-}
-
-/// How many orders six pairs have.
-const ORDERS: usize = 720;
-
-/// The number of orders of fewer pairs, by their count.
-const FACTORIALS: [usize; 7] = [1, 1, 2, 6, 24, 120, 720];
-
-/// Numbers an order: orders that leave the places from L on alone have the numbers below L!.
-const fn number_of(order: &[u8; 6]) -> usize {
-    let mut number = 0;
-    let mut i = 0;
-    while i < 6 {
-        let mut larger = 0;
-        let mut j = 0;
-        while j < i {
-            if order[j] > order[i] {
-                larger += 1;
-            }
-            j += 1;
+        self.keys[row] = key;
+        self.index.slots[place] = row as u16 + 1;
+        self.count += 1;
+        if self.count == self.index.room && self.count < self.keys.len() {
+            self.index.grow(&self.keys[..self.count]);
         }
-        number += larger * FACTORIALS[i];
-        i += 1;
+        Some(row as u16)
     }
-    number
-}
 
-/// The order of a number.
-const fn order_of(number: usize) -> [u8; 6] {
-    let mut order = [0, 1, 2, 3, 4, 5];
-    let mut i = 5;
-    while i > 0 {
-        let larger = number / FACTORIALS[i] % (i + 1);
-        let place = i - larger;
-        let kept = order[place];
-        let mut j = place;
-        while j < i {
-            order[j] = order[j + 1];
-            j += 1;
-        }
-        order[i] = kept;
-        i -= 1;
-    }
-    order
-}
-
-/// All orders by number.
-const ALL_ORDERS: [[u8; 6]; ORDERS] = {
-    let mut all = [[0; 6]; ORDERS];
-    let mut number = 0;
-    while number < ORDERS {
-        all[number] = order_of(number);
-        number += 1;
-    }
-    all
-};
-
-/// For an order and a set of pairs: the order with the set moved to the front (ten bits),
-/// and above it the largest position of a pair of the set.
-#[allow(long_running_const_eval)]
-static STEPS: [[u16; 64]; ORDERS] = {
-    let mut steps = [[0u16; 64]; ORDERS];
-    let mut number = 0;
-    while number < ORDERS {
-        steps[number][0] = number as u16;
-        let mut place = 0;
-        while place < 6 {
-            let order = ALL_ORDERS[number];
-            let mut after = order;
-            let mut j = place;
-            while j > 0 {
-                after[j] = after[j - 1];
-                j -= 1;
-            }
-            after[0] = order[place];
-            steps[number][1 << order[place]] = number_of(&after) as u16 | (place as u16 + 1) << 10;
-            place += 1;
-        }
-        number += 1;
-    }
-    let mut set = 0;
-    while set < 64usize {
-        if set & set.wrapping_sub(1) != 0 {
-            number = 0;
-            while number < ORDERS {
-                let low = set & set.wrapping_neg();
-                let rest = set & (set - 1);
-                let mut last = low;
-                let mut others = rest;
-                while others != 0 {
-                    let one = others & others.wrapping_neg();
-                    if steps[number][one] >> 10 > steps[number][last] >> 10 {
-                        last = one;
-                    }
-                    others &= others - 1;
+    /// Fills one row, with so many rounds for the pairs of its record, and adds the rows it
+    /// discovers; answers whether they fit.
+    #[inline(always)]
+    pub(crate) fn take_row(
+        &mut self,
+        record: u32,
+        rounds: u32,
+        cells: &[Cell],
+        targets: &mut [u16],
+        priorities: &mut [u8],
+    ) -> bool {
+        for ((cell, target), priority) in cells.iter().zip(targets).zip(priorities) {
+            let key;
+            (key, *priority) = match cell.kind {
+                Kind::Missing => {
+                    (*target, *priority) = (NO_ROW, 0);
+                    continue;
                 }
-                let between = steps[number][last];
-                let moved = steps[(between & 1023) as usize][set & !last];
-                steps[number][set] = moved & 1023 | between & !1023;
-                number += 1;
+                Kind::Crossing => (cell.key, 1),
+                Kind::Inside => {
+                    let (next, priority) = step(record, rounds, cell);
+                    (cell.key | next, priority)
+                }
+            };
+            match self.row_of(key) {
+                Some(row) => *target = row,
+                None => return false,
             }
         }
-        set += 1;
+        true
     }
-    steps
-};
 
-/// A transition for numbered orders: where its target's rows begin in the index, the bits of
-/// the moved order that it keeps, its squeezed marks, and 0 to silence the priority.
-#[derive(Clone, Copy)]
-struct OrderEdge {
-    base: u16,
-    keeps: u16,
-    state: u8,
-    prohibited: u8,
-    either: u8,
-    loud: u8,
+    /// Fills the rows in order of discovery by `take`, which is given a row's state, record and
+    /// number of pairs and answers whether what it discovers fits; then writes the sources and
+    /// the record numbers.
+    #[inline(always)]
+    pub(crate) fn explore(
+        mut self,
+        survey: &Survey,
+        m: usize,
+        targets: &mut [u16],
+        priorities: &mut [u8],
+        sources: &mut [u8],
+        mut take: impl FnMut(&mut Rows, usize, u32, u32, &mut [u16], &mut [u8]) -> bool,
+    ) -> Option<usize> {
+        let places = targets
+            .chunks_exact_mut(m)
+            .zip(priorities.chunks_exact_mut(m));
+        for (row, (targets, priorities)) in places.enumerate() {
+            if row == self.count {
+                break;
+            }
+            let key = self.keys[row];
+            let q = (key >> RECORD_BITS) as usize & 63;
+            let record = key & ((1 << RECORD_BITS) - 1);
+            let length = survey.counted[q].count_ones();
+            if !take(&mut self, q, record, length, targets, priorities) {
+                return None;
+            }
+        }
+        for (source, key) in sources.iter_mut().zip(self.keys).take(self.count) {
+            *source = (*key >> RECORD_BITS) as u8;
+            *key = packed_decimal(*key, survey.counted[*source as usize & 63].count_ones());
+        }
+        Some(self.count)
+    }
 }
 
-/// What the index of orders adds to a row's number, so that 0 means none.
-const PRESENT: u16 = 0x4000;
-
-/// Squeezes the bits of a set that lie in another set together.
-fn squeezed(set: u8, within: u8) -> u8 {
-    let (mut left, mut at, mut result) = (within, 0, 0);
-    while left != 0 {
-        result |= (set >> left.trailing_zeros() & 1) << at;
-        at += 1;
-        left &= left - 1;
-    }
-    result
-}
-
-/// Reads an order of the counted pairs as one decimal number of pair numbers.
-fn order_decimal(number: usize, counted: u8) -> u32 {
-    let mut names = [0u8; 8];
-    let (mut left, mut length) = (counted, 0);
-    while left != 0 {
-        names[length & 7] = left.trailing_zeros() as u8 + 1;
-        length += 1;
-        left &= left - 1;
-    }
-    let pairs = ALL_ORDERS[number].iter().take(length);
-    pairs.fold(0, |result, &pair| {
-        10 * result + names[pair as usize & 7] as u32
-    })
-}
-
-/// Fills the rows in order of discovery with numbered orders, or gives up when they don't fit;
-/// the index has one place for each state and order of its pairs.
-fn explore_orders(rabin: &Rabin, lent: &mut Lent) -> Option<usize> {
+/// Fills the rows of a table in order of discovery, or gives up when they don't fit.
+fn explore(rabin: &Rabin, lent: &mut Lent) -> Option<usize> {
     let m = rabin.letters;
-    let component = components(rabin);
-    let counted = counted_pairs(rabin, &component);
-    let mut base = [0u16; 64];
-    let mut need = 1;
-    for q in 0..rabin.states {
-        base[q] = need as u16;
-        need += FACTORIALS[counted[q].count_ones() as usize];
-    }
-    let none = OrderEdge {
-        base: 0,
-        keeps: 0,
-        state: 0,
-        prohibited: 0,
-        either: 0,
-        loud: 0,
-    };
-    let edges = Edges::new(rabin, none, |q, t, prohibited, required| {
-        if t == NO_TARGET {
-            return none;
-        }
-        let crossing = OrderEdge {
-            base: base[t as usize & 63],
-            state: t,
-            loud: 255,
-            ..none
-        };
-        if component[q & 63] >> (t & 63) & 1 == 0 {
-            return crossing;
-        }
-        let prohibited = squeezed(prohibited, counted[q & 63]);
-        let either = prohibited | squeezed(required, counted[q & 63]);
-        OrderEdge {
-            keeps: 1023,
-            prohibited,
-            either,
-            ..crossing
-        }
-    });
-    let mut small = [0u16; 256];
-    let mut large = Vec::new();
-    let index = if need <= small.len() {
-        &mut small[..need]
-    } else {
-        large.resize(need, 0u16);
-        &mut large[..]
-    };
-    index[0] = NO_ROW ^ PRESENT;
-    index[base[rabin.start] as usize] = PRESENT;
-    lent.sources[0] = rabin.start as u8;
-    lent.records[0] = 0;
-    let mut rows = 1;
-    let mut found = Found {
-        rows: [0; 16],
-        priorities: [0; 16],
-    };
-    let places = lent
-        .targets
-        .chunks_exact_mut(m)
-        .zip(lent.priorities.chunks_exact_mut(m));
-    for (row, (targets, priorities)) in places.enumerate() {
-        if row == rows {
-            break;
-        }
-        let q = lent.sources[row] as usize & 63;
-        let number = lent.records[row] as usize;
-        lent.records[row] = order_decimal(number, counted[q]);
-        let steps = &STEPS[number];
-        for (i, edge) in edges.of_state(q).iter().enumerate() {
-            let moved = steps[edge.prohibited as usize & 63];
-            let last = steps[edge.either as usize & 63] >> 10;
-            let priority = 2 * last + (last == moved >> 10) as u16;
-            let next = moved & edge.keeps;
-            let slot = &mut index[(edge.base + next) as usize];
-            if *slot == 0 {
-                if rows == lent.sources.len() {
-                    return None;
-                }
-                *slot = rows as u16 ^ PRESENT;
-                lent.sources[rows] = edge.state;
-                lent.records[rows] = next as u32;
-                rows += 1;
-            }
-            found.rows[i & 15] = *slot ^ PRESENT;
-            found.priorities[i & 15] = priority as u8 & edge.loud;
-        }
-        edges.deal(q, &found, targets, priorities);
-    }
-    Some(rows)
+    let survey = Survey::new(rabin);
+    let cells = survey.cells(rabin);
+    let rows = Rows::new(lent.records, survey.first(rabin.start));
+    rows.explore(
+        &survey,
+        m,
+        lent.targets,
+        lent.priorities,
+        lent.sources,
+        |rows, q, record, _, targets, priorities| {
+            rows.take_row(
+                record,
+                MOST_PAIRS,
+                &cells[q * m..][..m],
+                targets,
+                priorities,
+            )
+        },
+    )
 }
 
 /// Checks a word against the number of letters, in the order of the refusals.
@@ -801,48 +560,34 @@ fn check_word(letters: usize, lead: &[u8], looped: &[u8]) -> Result<(), u8> {
     Ok(())
 }
 
-/// Calls a walk that is compiled for its number of letters.
-macro_rules! by_letters {
-    ($letters:expr, $walk:ident, $($argument:expr),*) => {
-        match $letters {
-            1 => $walk::<1>($($argument),*),
-            2 => $walk::<2>($($argument),*),
-            3 => $walk::<3>($($argument),*),
-            4 => $walk::<4>($($argument),*),
-            5 => $walk::<5>($($argument),*),
-            6 => $walk::<6>($($argument),*),
-            7 => $walk::<7>($($argument),*),
-            8 => $walk::<8>($($argument),*),
-            9 => $walk::<9>($($argument),*),
-            10 => $walk::<10>($($argument),*),
-            11 => $walk::<11>($($argument),*),
-            12 => $walk::<12>($($argument),*),
-            13 => $walk::<13>($($argument),*),
-            14 => $walk::<14>($($argument),*),
-            15 => $walk::<15>($($argument),*),
-            _ => $walk::<16>($($argument),*),
-        }
-    };
+/// Checks a table and a word for the judge of Rabin tables.
+#[inline(always)]
+pub(crate) fn check_rabin<'a>(
+    table: &'a [u8],
+    lead: &[u8],
+    looped: &[u8],
+) -> Result<Rabin<'a>, u8> {
+    let rabin = check_table(table)?;
+    check_word(rabin.letters, lead, looped)?;
+    Ok(rabin)
 }
 
 /// Judges a looped word on a Rabin table.
 pub fn judge_rabin(table: &[u8], lead: &[u8], looped: &[u8]) -> Judged {
-    let rabin = match check_table(table) {
-        Ok(rabin) => rabin,
-        Err(number) => return Judged::Refused(number),
-    };
-    if let Err(number) = check_word(rabin.letters, lead, looped) {
-        return Judged::Refused(number);
+    match check_rabin(table, lead, looped) {
+        Ok(rabin) => walk_rabin(&rabin, rabin.letters, lead, looped),
+        Err(number) => Judged::Refused(number),
     }
-    by_letters!(rabin.letters, walk_rabin, &rabin, lead, looped)
 }
 
-/// Walks a checked word on a Rabin table of `M` letters until a pass begins where one began.
-fn walk_rabin<const M: usize>(rabin: &Rabin, lead: &[u8], looped: &[u8]) -> Judged {
+/// Walks a checked word on a Rabin table of `m` letters until a pass begins where one began; the
+/// slice that begins at the letter is cut while the state is still awaited.
+#[inline(always)]
+pub(crate) fn walk_rabin(rabin: &Rabin, m: usize, lead: &[u8], looped: &[u8]) -> Judged {
     let targets = rabin.targets;
     let mut state = rabin.start;
     for (at, &a) in lead.iter().enumerate() {
-        let t = targets[state * M + a as usize];
+        let t = targets[a as usize..][state * m];
         if t == NO_TARGET {
             return Judged::Stops(at as u32);
         }
@@ -856,13 +601,13 @@ fn walk_rabin<const M: usize>(rabin: &Rabin, lead: &[u8], looped: &[u8]) -> Judg
         seen[state] = passes as u8 + 1;
         let (mut prohibited, mut required) = (0, 0);
         for (at, &a) in looped.iter().enumerate() {
-            let cell = state * M + a as usize;
-            let t = targets[cell];
+            let (first, a) = (state * m, a as usize);
+            let t = targets[a..][first];
             if t == NO_TARGET {
                 return Judged::Stops((read + at) as u32);
             }
-            prohibited |= rabin.marks[2 * cell];
-            required |= rabin.marks[2 * cell + 1];
+            prohibited |= rabin.marks[2 * (first + a)];
+            required |= rabin.marks[2 * (first + a) + 1];
             state = t as usize;
         }
         read += looped.len();
@@ -880,6 +625,46 @@ fn walk_rabin<const M: usize>(rabin: &Rabin, lead: &[u8], looped: &[u8]) -> Judg
     }
 }
 
+/// A checked parity table, its parts as slices of the caller's arrays.
+pub(crate) struct Parity<'a> {
+    rows: usize,
+    targets: &'a [u16],
+    priorities: &'a [u8],
+}
+
+/// Checks a table and a word for the judge of parity tables.
+#[inline(always)]
+pub(crate) fn check_parity<'a>(
+    rows: usize,
+    letters: usize,
+    targets: &'a [u16],
+    priorities: &'a [u8],
+    lead: &[u8],
+    looped: &[u8],
+) -> Result<Parity<'a>, u8> {
+    if !(1..=MOST_ROWS).contains(&rows)
+        || !(1..=16).contains(&letters)
+        || targets.len() < rows * letters
+        || priorities.len() < rows * letters
+    {
+        return Err(11);
+    }
+    let targets = &targets[..rows * letters];
+    let priorities = &priorities[..rows * letters];
+    let wrong = targets
+        .iter()
+        .fold(false, |bad, &t| bad | ((t >= rows as u16) & (t != NO_ROW)));
+    if wrong {
+        return Err(11);
+    }
+    check_word(letters, lead, looped)?;
+    Ok(Parity {
+        rows,
+        targets,
+        priorities,
+    })
+}
+
 /// Judges a looped word on a parity table.
 pub fn judge_parity(
     rows: usize,
@@ -889,81 +674,39 @@ pub fn judge_parity(
     lead: &[u8],
     looped: &[u8],
 ) -> Judged {
-    if !(1..=MOST_ROWS).contains(&rows)
-        || !(1..=16).contains(&letters)
-        || targets.len() < rows * letters
-        || priorities.len() < rows * letters
-    {
-        return Judged::Refused(11);
+    match check_parity(rows, letters, targets, priorities, lead, looped) {
+        Ok(parity) => walk_parity(&parity, letters, lead, looped),
+        Err(number) => Judged::Refused(number),
     }
-    let targets = &targets[..rows * letters];
-    let priorities = &priorities[..rows * letters];
-    let wrong = targets
-        .iter()
-        .fold(false, |bad, &t| bad | ((t >= rows as u16) & (t != NO_ROW)));
-    if wrong {
-        return Judged::Refused(11);
-    }
-    if let Err(number) = check_word(letters, lead, looped) {
-        return Judged::Refused(number);
-    }
-    by_letters!(
-        letters,
-        walk_parity,
-        rows,
-        targets,
-        priorities,
-        lead,
-        looped
-    )
 }
 
-/// Walks a checked word on a parity table of `M` letters until a pass begins where one began.
-fn walk_parity<const M: usize>(
-    rows: usize,
-    targets: &[u16],
-    priorities: &[u8],
-    lead: &[u8],
-    looped: &[u8],
-) -> Judged {
+/// Walks a checked word on a parity table of `m` letters until a pass begins where one began, in
+/// the way of `walk_rabin`.
+#[inline(always)]
+pub(crate) fn walk_parity(parity: &Parity, m: usize, lead: &[u8], looped: &[u8]) -> Judged {
     let mut row = 0;
     for (at, &a) in lead.iter().enumerate() {
-        let t = targets[row * M + a as usize];
+        let t = parity.targets[a as usize..][row * m];
         if t == NO_ROW {
             return Judged::Stops(at as u32);
         }
         row = t as usize;
     }
-    if rows <= 64 {
-        repeat_parity::<M>(
-            targets,
-            priorities,
-            row,
-            lead.len(),
-            looped,
-            &mut [0; 64],
-            &mut [0; 64],
-        )
+    let read = lead.len();
+    if parity.rows <= 64 {
+        repeat_parity(parity, m, row, read, looped, &mut [0; 64], &mut [0; 64])
     } else {
-        let (mut begun, mut largest) = (vec![0; rows], vec![0; rows]);
-        repeat_parity::<M>(
-            targets,
-            priorities,
-            row,
-            lead.len(),
-            looped,
-            &mut begun,
-            &mut largest,
-        )
+        let (mut begun, mut largest) = (vec![0; parity.rows], vec![0; parity.rows]);
+        repeat_parity(parity, m, row, read, looped, &mut begun, &mut largest)
     }
 }
 
 /// Walks passes of the loop from a row on; `begun` holds the number of the pass that began at a
 /// row, 0 for none, and `largest` the largest priority of each pass.
 #[inline(always)]
-fn repeat_parity<const M: usize>(
-    targets: &[u16],
-    priorities: &[u8],
+fn repeat_parity(
+    parity: &Parity,
+    m: usize,
     mut row: usize,
     mut read: usize,
     looped: &[u8],
@@ -975,12 +718,12 @@ fn repeat_parity<const M: usize>(
         begun[row] = passes as u16 + 1;
         let mut most = 0;
         for (at, &a) in looped.iter().enumerate() {
-            let cell = row * M + a as usize;
-            let t = targets[cell];
+            let (first, a) = (row * m, a as usize);
+            let t = parity.targets[a..][first];
             if t == NO_ROW {
                 return Judged::Stops((read + at) as u32);
             }
-            most = most.max(priorities[cell]);
+            most = most.max(parity.priorities[first + a]);
             row = t as usize;
         }
         read += looped.len();

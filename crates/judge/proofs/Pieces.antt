@@ -4,16 +4,17 @@
 --     read-misses          one letter more that meets a missing transition
 --     met-letter           what one letter more meets
 --     misses-within        a missing transition is met before the end of the piece
+--     column-long, column-at     the part of some cells from a letter on: how long it is, and what stands there
 use mathlib.Core.Path.{_≡_, sym, ap, _∙_}
 use mathlib.Core.Bool.{Bool, false}
 use mathlib.Core.List.{List, [], _∷_, _++_}
-use Prim.Native.Nat.{ℕ, zero, suc, _+_, _<_, _≤_}
+use Prim.Native.Nat.{ℕ, zero, suc, _+_, _-_, _<_, _≤_}
 use native.Mathlib.Nat.{not-suc-le-zero}
 use native.Mathlib.Numerals.{add-one}
 use native.Mathlib.Omega.{arith}
 use lib.Dec.{leb}
-use lib.ListN.{length, getD, take, drop, take-append-drop, length-take, length-append}
-use lib.Seq.{take-suc, drop-cons}
+use lib.ListN.{length, getD, take, drop, take-append-drop, length-take, length-drop, length-append}
+use lib.Seq.{take-suc, drop-cons, length-take-le, getD-take, getD-drop}
 use borrow.Author.Tests.{leb-false}
 use Rattle.rules.specs.Systems.{System, Path, here, step}
 use Rattle.rules.specs.Runs.{strayLetter, Taken, taken, passFrom}
@@ -60,3 +61,11 @@ misses-within s p w n m =
     let x = m .stop in
     let e = ap length (x .piece) in
     omega (arith, m .count, sym (length-append (x .before) (x .next ∷ x .later)) ∙ e)
+
+-- ---- a letter's column: the part of a table's cells from the letter on
+pub column-long : (xs : List ℕ) (a : ℕ) → a ≤ length xs → length (take (length xs - a) (drop a xs)) ≡ length xs - a
+column-long xs a l = length-take-le (length xs - a) (drop a xs) (omega (arith, length-drop a xs))
+
+pub column-at : (xs : List ℕ) (a j : ℕ) → j + a < length xs → getD (take (length xs - a) (drop a xs)) j 0 ≡ getD xs (j + a) 0
+column-at xs a j l =
+    getD-take (length xs - a) (drop a xs) j 0 (omega arith) ∙ getD-drop a xs j 0 ∙ ap (λ (k : ℕ). getD xs k 0) (omega arith)

@@ -62,7 +62,8 @@ fn larger(a: u8, b: u8) -> u8
     if a < b { b } else { a }
 }
 
-// Reads a piece from a row on, letter by letter, as far as the transitions lead.
+// Reads a piece from a row on, letter by letter, as far as the transitions lead. A letter's column of the table is found while the row
+// is still awaited.
 fn read_piece(
     rows: usize,
     letters: usize,
@@ -78,8 +79,10 @@ fn read_piece(
     let mut peak = 0;
     let mut i = 0;
     while i < piece.len() {
-        let cell = place * letters + piece[i] as usize;
-        let target = targets[cell] as usize;
+        let letter = piece[i] as usize;
+        let first = place * letters;
+        let column = &targets[letter..];
+        let target = column[first] as usize;
         if rows <= target {
             return Reading {
                 place: target,
@@ -87,7 +90,7 @@ fn read_piece(
                 peak,
             };
         }
-        peak = larger(peak, priorities[cell]);
+        peak = larger(peak, priorities[first + letter]);
         place = target;
         i += 1;
     }

@@ -23,7 +23,8 @@ struct Reading {
     required: u8,
 }
 
-// Reads a piece from a state on, letter by letter, as far as the transitions lead.
+// Reads a piece from a state on, letter by letter, as far as the transitions lead. A letter's column of the targets is found while the
+// state is still awaited.
 fn read_piece(table: &[u8], piece: &[u8], from: usize) -> Reading
     requires { ⌜ Taken (now table) × (strayLetter (tableOf (now table) .letters) (now piece) ≡ false) × (from < statesOf (now table)) ⌝ }
     ensures { λ r. ⌜ PieceSays (systemIn (now (table .entry))) from (now (piece .entry)) (r .place) (r .read) × MetOn (systemIn (now (table .entry))) bit (prohibitedMarks (tableOf (now (table .entry)))) from (now (piece .entry)) (r .place) (r .prohibited) × MetOn (systemIn (now (table .entry))) bit (requiredMarks (tableOf (now (table .entry)))) from (now (piece .entry)) (r .place) (r .required) ⌝ }
@@ -36,8 +37,11 @@ fn read_piece(table: &[u8], piece: &[u8], from: usize) -> Reading
     let mut required = 0;
     let mut i = 0;
     while i < piece.len() {
-        let cell = place * m + piece[i] as usize;
-        let target = table[HEADER_SIZE + cell] as usize;
+        let letter = piece[i] as usize;
+        let first = place * m;
+        let start = HEADER_SIZE + letter;
+        let column = &table[start..];
+        let target = column[first] as usize;
         if n <= target {
             return Reading {
                 place: target,
@@ -46,7 +50,7 @@ fn read_piece(table: &[u8], piece: &[u8], from: usize) -> Reading
                 required,
             };
         }
-        let at = marks_at + 2 * cell;
+        let at = marks_at + 2 * (first + letter);
         prohibited = prohibited | table[at];
         required = required | table[at + 1];
         place = target;

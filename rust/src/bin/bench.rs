@@ -1,8 +1,10 @@
-//! Times the proved translator and judges against the tuned and the plain ones, in one process.
+//! Times the proved translator and judges against the tuned, the plain and the specialised ones,
+//! in one process.
 //!
 //! `bench` runs everything; `bench a`, `bench b` and `bench c` run one part, `bench quick` all
-//! parts shortened. `bench profile-translate`, `bench profile-parity` and `bench profile-rabin`
-//! only run the proved side, for a profiler. The environment variable SEED sets the seed.
+//! parts shortened. `bench profile-translate`, `bench profile-tiny`, `bench profile-parity` and
+//! `bench profile-rabin` only run the proved side, for a profiler, or the tuned one if the word
+//! `tuned` follows. The environment variable SEED sets the seed.
 
 use std::hint::black_box;
 use std::process::exit;
@@ -10,7 +12,7 @@ use std::time::{Duration, Instant};
 
 use duckbullion::calls::{self, Judged, Translation};
 use duckbullion::random::Random;
-use duckbullion::{plain, tuned};
+use duckbullion::{plain, specialised, tuned};
 
 /// A translator of any side.
 type Translator = fn(&[u8], usize, &mut [u16], &mut [u8], &mut [u8], &mut [u32]) -> Translation;
@@ -21,29 +23,66 @@ type RabinJudge = fn(&[u8], &[u8], &[u8]) -> Judged;
 /// A judge of parity tables of any side.
 type ParityJudge = fn(usize, usize, &[u16], &[u8], &[u8], &[u8]) -> Judged;
 
-/// The translators: proved, tuned, plain, and the one with tabulated orders.
-const TRANSLATORS: [Translator; 4] = [
+/// The translators, in the order of the sides.
+const TRANSLATORS: [Translator; 5] = [
     calls::translate_table,
     tuned::translate_table,
     plain::translate_table,
-    tuned::translate_by_orders,
+    specialised::translate_table,
+    specialised::translate_by_orders,
 ];
 
-/// The judges of Rabin tables: proved, tuned, plain.
-const RABIN_JUDGES: [RabinJudge; 3] = [calls::judge_rabin, tuned::judge_rabin, plain::judge_rabin];
+/// The judges of Rabin tables, in the order of the sides.
+const RABIN_JUDGES: [RabinJudge; 4] = [
+    calls::judge_rabin,
+    tuned::judge_rabin,
+    plain::judge_rabin,
+    specialised::judge_rabin,
+];
 
-/// The judges of parity tables: proved, tuned, plain.
-const PARITY_JUDGES: [ParityJudge; 3] = [
+/// The judges of parity tables, in the order of the sides.
+const PARITY_JUDGES: [ParityJudge; 4] = [
     calls::judge_parity,
     tuned::judge_parity,
     plain::judge_parity,
+    specialised::judge_parity,
 ];
 
-/// The sides' names, in the order of the arrays above.
-const NAMES: [&str; 4] = ["proved", "tuned", "plain", "orders"];
+/// The sides' names.
+const NAMES: [&str; 5] = ["proved", "tuned", "plain", "special", "orders"];
+
+/// The place of the proved side.
+const PROVED: usize = 0;
+
+/// The place of the tuned side.
+const TUNED: usize = 1;
 
 /// The place of the plain side, which runs in fewer rounds because it is slow.
 const PLAIN: usize = 2;
+
+/// The place of the specialised side.
+const SPECIAL: usize = 3;
+
+/// The place of the translator with tabulated orders.
+const ORDERS: usize = 4;
+
+/// The sides that translate.
+const ALL: [usize; 5] = [PROVED, TUNED, PLAIN, SPECIAL, ORDERS];
+
+/// The sides that judge.
+const JUDGES: [usize; 4] = [PROVED, TUNED, PLAIN, SPECIAL];
+
+/// The sides that judge where the plain one would take too long.
+const FAST_JUDGES: [usize; 3] = [PROVED, TUNED, SPECIAL];
+
+/// The smallest times of the sides in nanoseconds; those not measured are no numbers.
+type Times = [f64; 5];
+
+/// From so many rows on a table counts as large in the summaries.
+const LARGE: usize = 500;
+
+/// From so many letters read on a loop counts as long in the summaries.
+const LONG: usize = 1_000;
 
 /// The largest capacity.
 const MOST_ROWS: usize = 4_096;
@@ -111,21 +150,21 @@ impl Buffers {
     }
 }
 
-/// Times the sides in turn, round after round, and gives each one's smallest time for a call in
-/// nanoseconds; `run` makes so many calls of a side and gives the time they took.
+/// Times the sides in turn, round after round, and gives each one's smallest time for a call;
+/// `run` makes so many calls of a side and gives the time they took.
 fn interleave(
-    sides: usize,
+    sides: &[usize],
     least_rounds: usize,
     budget: Duration,
     mut run: impl FnMut(usize, usize) -> Duration,
-) -> Vec<f64> {
+) -> Times {
     let slice = 1.0e6;
-    let mut best = vec![f64::MAX; sides];
-    let mut repeats = vec![1; sides];
+    let mut best = [f64::NAN; 5];
+    let mut repeats = [1; 5];
     let begin = Instant::now();
     let mut round = 0;
     while round < least_rounds || begin.elapsed() < budget {
-        for side in 0..sides {
+        for &side in sides {
             if side == PLAIN && round > 1 && round % 8 != 0 {
                 continue;
             }
@@ -142,7 +181,7 @@ fn interleave(
 /// What one measured translation gave.
 struct Measured {
     answer: Translation,
-    times: Vec<f64>,
+    times: Times,
 }
 
 /// Compares all sides on one table from scribbled arrays, then times them, comparing again.
@@ -154,9 +193,9 @@ fn measure_translation(
     buffers: &mut Buffers,
 ) -> Measured {
     buffers.scribble();
-    let answer = buffers.translate(0, table, capacity);
+    let answer = buffers.translate(PROVED, table, capacity);
     let expected = buffers.clone();
-    for side in 1..TRANSLATORS.len() {
+    for &side in &ALL[1..] {
         buffers.scribble();
         let other = buffers.translate(side, table, capacity);
         compare(
@@ -166,7 +205,7 @@ fn measure_translation(
         );
     }
     let cells = answer.rows * table.get(1).map_or(0, |&letters| letters as usize);
-    let times = interleave(TRANSLATORS.len(), least_rounds, budget, |side, repeats| {
+    let times = interleave(&ALL, least_rounds, budget, |side, repeats| {
         let mut last = answer;
         let before = Instant::now();
         for _ in 0..repeats {
@@ -177,19 +216,14 @@ fn measure_translation(
         compare(side, equal, &format!("{answer:?} {last:?}"));
         taken
     });
-    compare(0, *buffers == expected, "the arrays after the rounds");
+    compare(PROVED, *buffers == expected, "the arrays after the rounds");
     Measured { answer, times }
 }
 
 /// Times judges on one word, comparing every answer.
-fn measure_judges(
-    sides: usize,
-    least_rounds: usize,
-    budget: Duration,
-    judge: impl Fn(usize) -> Judged,
-) -> Vec<f64> {
-    let answer = judge(1);
-    interleave(sides, least_rounds, budget, |side, repeats| {
+fn measure_judges(sides: &[usize], effort: Effort, judge: impl Fn(usize) -> Judged) -> Times {
+    let answer = judge(PROVED);
+    interleave(sides, effort.rounds, effort.case, |side, repeats| {
         let mut last = answer;
         let before = Instant::now();
         for _ in 0..repeats {
@@ -211,7 +245,9 @@ fn compare(side: usize, equal: bool, what: &str) {
 
 /// Writes a time in the unit that suits it.
 fn shown(nanoseconds: f64) -> String {
-    if nanoseconds < 1.0e4 {
+    if nanoseconds.is_nan() {
+        "-".to_string()
+    } else if nanoseconds < 1.0e4 {
         format!("{nanoseconds:.0} ns")
     } else if nanoseconds < 1.0e7 {
         format!("{:.1} us", nanoseconds / 1.0e3)
@@ -220,58 +256,125 @@ fn shown(nanoseconds: f64) -> String {
     }
 }
 
+/// How many times as long the proved side takes as another one.
+fn against(times: &Times, side: usize) -> f64 {
+    times[PROVED] / times[side]
+}
+
+/// Writes how many times as long the proved side takes as another one.
+fn ratio(times: &Times, side: usize) -> String {
+    if times[side].is_nan() {
+        "-".to_string()
+    } else {
+        format!("{:.2}", against(times, side))
+    }
+}
+
+/// The smallest and the largest of the values noted so far, each with its case.
+#[derive(Default)]
+struct Range {
+    smallest: Option<(f64, String)>,
+    largest: Option<(f64, String)>,
+}
+
+impl Range {
+    /// Notes the value of a case.
+    fn note(&mut self, value: f64, case: &str) {
+        if self.smallest.as_ref().is_none_or(|known| value < known.0) {
+            self.smallest = Some((value, case.to_string()));
+        }
+        if self.largest.as_ref().is_none_or(|known| value > known.0) {
+            self.largest = Some((value, case.to_string()));
+        }
+    }
+
+    /// Writes a value with its case.
+    fn written(found: &Option<(f64, String)>) -> String {
+        match found {
+            Some((value, case)) => format!("{value:.2} ({case})"),
+            None => "none".to_string(),
+        }
+    }
+
+    /// Writes the smallest value.
+    fn smallest(&self) -> String {
+        Range::written(&self.smallest)
+    }
+
+    /// Writes the largest value.
+    fn largest(&self) -> String {
+        Range::written(&self.largest)
+    }
+}
+
 /// Prints the head of a table of translations.
 fn head_of_translations() {
     println!(
-        "{:<34} {:>5} {:>3} {:>10} {:>10} {:>10} {:>10} {:>7} {:>7} {:>7} {:>8}",
+        "{:<34} {:>5} {:>3} {:>10} {:>10} {:>10} {:>7} {:>7} {:>10} {:>9} {:>10} {:>8} {:>8}",
         "case",
         "rows",
         "let",
         "proved",
         "tuned",
         "plain",
-        "orders",
         "p/tuned",
         "p/plain",
-        "p/order",
+        "special",
+        "p/special",
+        "orders",
+        "p/orders",
         "Mcells/s"
     );
 }
 
 /// Prints one line of a table of translations.
-fn line_of_translation(case: &str, letters: usize, rows: usize, times: &[f64]) {
+fn line_of_translation(case: &str, letters: usize, rows: usize, times: &Times) {
     println!(
-        "{case:<34} {rows:>5} {letters:>3} {:>10} {:>10} {:>10} {:>10} {:>7.2} {:>7.2} {:>7.2} {:>8.1}",
-        shown(times[0]),
-        shown(times[1]),
-        shown(times[2]),
-        shown(times[3]),
-        times[0] / times[1],
-        times[0] / times[2],
-        times[0] / times[3],
-        (rows * letters) as f64 * 1.0e3 / times[0]
+        "{case:<34} {rows:>5} {letters:>3} {:>10} {:>10} {:>10} {:>7} {:>7} {:>10} {:>9} {:>10} {:>8} {:>8.1}",
+        shown(times[PROVED]),
+        shown(times[TUNED]),
+        shown(times[PLAIN]),
+        ratio(times, TUNED),
+        ratio(times, PLAIN),
+        shown(times[SPECIAL]),
+        ratio(times, SPECIAL),
+        shown(times[ORDERS]),
+        ratio(times, ORDERS),
+        (rows * letters) as f64 * 1.0e3 / times[PROVED]
     );
 }
 
 /// Prints the head of a table of judgements.
 fn head_of_judgements() {
     println!(
-        "{:<34} {:>5} {:>3} {:>10} {:>10} {:>10} {:>10} {:>7} {:>7} {:>8}",
-        "case", "rows", "let", "read", "proved", "tuned", "plain", "p/tuned", "p/plain", "Mlett/s"
+        "{:<34} {:>5} {:>3} {:>10} {:>10} {:>10} {:>10} {:>7} {:>7} {:>10} {:>9} {:>8}",
+        "case",
+        "rows",
+        "let",
+        "read",
+        "proved",
+        "tuned",
+        "plain",
+        "p/tuned",
+        "p/plain",
+        "special",
+        "p/special",
+        "Mlett/s"
     );
 }
 
 /// Prints one line of a table of judgements; `read` letters are read until a pass repeats.
-fn line_of_judgement(case: &str, rows: usize, letters: usize, read: usize, times: &[f64]) {
-    let plain = times.get(PLAIN);
+fn line_of_judgement(case: &str, rows: usize, letters: usize, read: usize, times: &Times) {
     println!(
-        "{case:<34} {rows:>5} {letters:>3} {read:>10} {:>10} {:>10} {:>10} {:>7.2} {:>7} {:>8.1}",
-        shown(times[0]),
-        shown(times[1]),
-        plain.map_or("-".to_string(), |&time| shown(time)),
-        times[0] / times[1],
-        plain.map_or("-".to_string(), |&time| format!("{:.2}", times[0] / time)),
-        read as f64 * 1.0e3 / times[0]
+        "{case:<34} {rows:>5} {letters:>3} {read:>10} {:>10} {:>10} {:>10} {:>7} {:>7} {:>10} {:>9} {:>8.1}",
+        shown(times[PROVED]),
+        shown(times[TUNED]),
+        shown(times[PLAIN]),
+        ratio(times, TUNED),
+        ratio(times, PLAIN),
+        shown(times[SPECIAL]),
+        ratio(times, SPECIAL),
+        read as f64 * 1.0e3 / times[PROVED]
     );
 }
 
@@ -382,7 +485,7 @@ impl Shape {
                 shape.singles = random.below(self.singles + 1);
             }
             let table = shape.draw(random);
-            let rows = buffers.translate(3, &table, aim).rows;
+            let rows = buffers.translate(ORDERS, &table, aim).rows;
             if rows > best.0 {
                 best = (rows, table);
             }
@@ -417,15 +520,56 @@ fn letters_read(
     read
 }
 
-/// Measures and prints one word on a complete Rabin table.
-fn bench_rabin(case: &str, table: &[u8], lead: &[u8], looped: &[u8], effort: Effort) {
-    let (states, letters) = (table[0] as usize, table[1] as usize);
+/// The largest ratios to the tuned side that the judges' summary shows.
+#[derive(Default)]
+struct JudgeBars {
+    rabin: Range,
+    parity: Range,
+    short: Range,
+}
+
+impl JudgeBars {
+    /// Notes one word; only large parity tables count among long loops.
+    fn note(&mut self, case: &str, parity_rows: Option<usize>, read: usize, times: &Times) {
+        let found = against(times, TUNED);
+        match parity_rows {
+            _ if read < LONG => self.short.note(found, case),
+            None => self.rabin.note(found, case),
+            Some(rows) if rows >= LARGE => self.parity.note(found, case),
+            Some(_) => (),
+        }
+    }
+}
+
+/// Measures one word on a complete Rabin table; gives the letters read and the times.
+fn time_rabin(
+    table: &[u8],
+    sides: &[usize],
+    lead: &[u8],
+    looped: &[u8],
+    effort: Effort,
+) -> (usize, Times) {
+    let letters = table[1] as usize;
     let step = |state: usize, a: u8| table[4 + state * letters + a as usize] as usize;
     let read = letters_read(table[3] as usize, lead, looped, step);
-    let times = measure_judges(3, effort.rounds, effort.case, |side| {
+    let times = measure_judges(sides, effort, |side| {
         RABIN_JUDGES[side](black_box(table), black_box(lead), black_box(looped))
     });
-    line_of_judgement(case, states, letters, read, &times);
+    (read, times)
+}
+
+/// Measures, notes and prints one word on a complete Rabin table.
+fn bench_rabin(
+    case: &str,
+    table: &[u8],
+    lead: &[u8],
+    looped: &[u8],
+    effort: Effort,
+    bars: &mut JudgeBars,
+) {
+    let (read, times) = time_rabin(table, &JUDGES, lead, looped, effort);
+    bars.note(case, None, read, &times);
+    line_of_judgement(case, table[0] as usize, table[1] as usize, read, &times);
 }
 
 /// A complete parity table in vectors of its own size.
@@ -439,7 +583,7 @@ struct Parity {
 impl Parity {
     /// Translates a table that is known to fit.
     fn of_table(table: &[u8], buffers: &mut Buffers) -> Parity {
-        let rows = buffers.translate(1, table, MOST_ROWS).rows;
+        let rows = buffers.translate(TUNED, table, MOST_ROWS).rows;
         let letters = table[1] as usize;
         let (targets, priorities) = (&buffers.targets, &buffers.priorities);
         Parity {
@@ -463,27 +607,38 @@ impl Parity {
         }
     }
 
-    /// Measures and prints one word, with so many of the sides.
-    fn bench(&self, case: &str, sides: usize, lead: &[u8], looped: &[u8], effort: Effort) {
+    /// Measures, notes and prints one word with the sides.
+    fn bench(
+        &self,
+        case: &str,
+        sides: &[usize],
+        lead: &[u8],
+        looped: &[u8],
+        effort: Effort,
+        bars: &mut JudgeBars,
+    ) {
+        let (read, times) = self.time(sides, lead, looped, effort);
+        let named = format!("{case}, {} rows", self.rows);
+        bars.note(&named, Some(self.rows), read, &times);
+        line_of_judgement(case, self.rows, self.letters, read, &times);
+    }
+
+    /// Measures one word with the sides; gives the letters read and the times.
+    fn time(&self, sides: &[usize], lead: &[u8], looped: &[u8], effort: Effort) -> (usize, Times) {
         let letters = self.letters;
         let step = |row: usize, a: u8| self.targets[row * letters + a as usize] as usize;
         let read = letters_read(0, lead, looped, step);
-        let times = self.times(sides, lead, looped, effort);
-        line_of_judgement(case, self.rows, letters, read, &times);
-    }
-
-    /// Measures one word with so many of the sides.
-    fn times(&self, sides: usize, lead: &[u8], looped: &[u8], effort: Effort) -> Vec<f64> {
-        measure_judges(sides, effort.rounds, effort.case, |side| {
+        let times = measure_judges(sides, effort, |side| {
             PARITY_JUDGES[side](
                 self.rows,
-                self.letters,
+                letters,
                 black_box(&self.targets),
                 black_box(&self.priorities),
                 black_box(lead),
                 black_box(looped),
             )
-        })
+        });
+        (read, times)
     }
 }
 
@@ -498,23 +653,32 @@ fn ring_table(random: &mut Random, states: usize, letters: usize) -> Vec<u8> {
 /// Part (a): random tables of the kind of document 001's second table.
 fn part_a(random: &mut Random, effort: Effort, buffers: &mut Buffers) {
     println!(
-        "\n(a) {} random tables like those of document 001's Table 2",
+        "\n(a) {} random tables like those of document 001's Table 2; quoted from that Table 2:",
         effort.tables
     );
+    println!(
+        "    the average #states in the columns StreettIAR 4959, sbIAR 1568, StreettIAR_P* 4175,"
+    );
+    println!("    sbIAR_P* 1081, IAR_P* 833 (P: post-processed, *: optimised)");
     println!("    20 to 30 states, 16 letters, 6 pairs, density 0.05, marks shared by state with");
     println!("    probability 0.2 each; capacity 4,096; sums of each table's smallest time\n");
-    let mut sums = [[0.0; 4]; 3];
+    let mut large = Range::default();
+    let mut sums = [[0.0; 5]; 3];
     let mut rows = [0; 3];
     let mut counts = [0; 3];
-    for _ in 0..effort.tables {
+    for number in 1..=effort.tables {
         let table = draw_paper_table(random);
         let measured = measure_translation(&table, MOST_ROWS, 6, Duration::ZERO, buffers);
         let found = measured.answer.rows;
         let groups = [
             true,
-            measured.answer.number == 0 && found >= 500,
+            measured.answer.number == 0 && found >= LARGE,
             measured.answer.number == 8,
         ];
+        if groups[1] {
+            let case = format!("table {number}, {found} rows");
+            large.note(against(&measured.times, TUNED), &case);
+        }
         for group in (0..3).filter(|&group| groups[group]) {
             counts[group] += 1;
             rows[group] += found;
@@ -540,8 +704,10 @@ fn part_a(random: &mut Random, effort: Effort, buffers: &mut Buffers) {
         counts[2],
         counts[0]
     );
-    println!("    document 001, Table 2, average #states: StreettIAR 4959, sbIAR 1568,");
-    println!("    StreettIAR_P* 4175, sbIAR_P* 1081, IAR_P* 833 (P: post-processed, *: optimised)");
+    println!(
+        "    summary (a): largest p/tuned from 500 rows on {}",
+        large.largest()
+    );
 }
 
 /// The shapes that come nearest to so many rows, for so many pairs.
@@ -569,6 +735,7 @@ fn shape_for(pairs: usize, aim: usize, letters: usize, percent: usize, shared: b
 fn part_b(random: &mut Random, effort: Effort, buffers: &mut Buffers) {
     println!("\n(b) worst cases\n");
     head_of_translations();
+    let (mut large, mut small) = (Range::default(), Range::default());
     let aims = [
         (2, 128),
         (3, 384),
@@ -592,7 +759,12 @@ fn part_b(random: &mut Random, effort: Effort, buffers: &mut Buffers) {
             let measured = measure_translation(&table, aim, effort.rounds, effort.case, buffers);
             let by = if shared { "state" } else { "cell" };
             let case = format!("{pairs} pairs, marks 0.{} by {by}", percent / 10);
-            line_of_translation(&case, letters, measured.answer.rows, &measured.times);
+            let rows = measured.answer.rows;
+            if rows >= LARGE {
+                let case = format!("{case}, {rows} rows, {letters} letters");
+                large.note(against(&measured.times, TUNED), &case);
+            }
+            line_of_translation(&case, letters, rows, &measured.times);
         }
     }
     let one = |letters: u8, pairs: u8| {
@@ -603,24 +775,26 @@ fn part_b(random: &mut Random, effort: Effort, buffers: &mut Buffers) {
         table
     };
     let tiny = [
-        ("T", CARD.to_vec(), 4),
+        ("T, capacity 4", CARD.to_vec(), 4),
+        ("T, capacity 4,096", CARD.to_vec(), MOST_ROWS),
         ("one state, no pair", one(1, 0), 1),
+        ("one state, 6 pairs", one(16, 6), 1),
     ];
-    let tiny = tiny
-        .into_iter()
-        .chain([("one state, 6 pairs", one(16, 6), 1)]);
     for (name, table, capacity) in tiny {
         let measured = measure_translation(&table, capacity, effort.rounds, effort.case, buffers);
-        line_of_translation(
-            name,
-            table[1] as usize,
-            measured.answer.rows,
-            &measured.times,
-        );
+        small.note(against(&measured.times, TUNED), name);
+        let (letters, rows) = (table[1] as usize, measured.answer.rows);
+        line_of_translation(name, letters, rows, &measured.times);
     }
+    println!(
+        "\n    summary (b), translator: largest p/tuned from 500 rows on {}; of tiny tables {}",
+        large.largest(),
+        small.largest()
+    );
 
     println!();
     head_of_judgements();
+    let mut bars = JudgeBars::default();
     let mut wide = shape_for(6, 4_096, 16, 20, false);
     wide.parts = vec![(64, 6)];
     wide.singles = 0;
@@ -628,14 +802,42 @@ fn part_b(random: &mut Random, effort: Effort, buffers: &mut Buffers) {
     let ring = ring_table(random, 64, 16);
     let long = draw_word(random, LONGEST, 16);
     let short = draw_word(random, 4, 16);
-    bench_rabin("Rabin, loop 65,535", &wide, &[], &long, effort);
-    bench_rabin("Rabin, lead 65,535, loop 1", &wide, &long, &[3], effort);
-    bench_rabin("Rabin, loop 4", &wide, &[], &short, effort);
-    bench_rabin("Rabin ring, loop 65,535", &ring, &[], &long, effort);
-    bench_rabin("Rabin ring, loop 1", &ring, &[], &[0], effort);
-    bench_rabin("Rabin T, loop 0 1", &CARD, &[], &[0, 1], effort);
-    bench_rabin("Rabin T, loop 1 1 0 0", &CARD, &[], &[1, 1, 0, 0], effort);
-    bench_rabin("Rabin one state, loop 0", &one(1, 0), &[], &[0], effort);
+    bench_rabin("Rabin, loop 65,535", &wide, &[], &long, effort, &mut bars);
+    bench_rabin(
+        "Rabin, lead 65,535, loop 1",
+        &wide,
+        &long,
+        &[3],
+        effort,
+        &mut bars,
+    );
+    bench_rabin("Rabin, loop 4", &wide, &[], &short, effort, &mut bars);
+    bench_rabin(
+        "Rabin ring, loop 65,535",
+        &ring,
+        &[],
+        &long,
+        effort,
+        &mut bars,
+    );
+    bench_rabin("Rabin ring, loop 1", &ring, &[], &[0], effort, &mut bars);
+    bench_rabin("Rabin T, loop 0 1", &CARD, &[], &[0, 1], effort, &mut bars);
+    bench_rabin(
+        "Rabin T, loop 1 1 0 0",
+        &CARD,
+        &[],
+        &[1, 1, 0, 0],
+        effort,
+        &mut bars,
+    );
+    bench_rabin(
+        "Rabin one state, loop 0",
+        &one(1, 0),
+        &[],
+        &[0],
+        effort,
+        &mut bars,
+    );
     for (pairs, aim, letters) in [(6, 4_096, 16), (5, 4_096, 4), (4, 1_024, 16), (6, 1_024, 2)] {
         let mut shape = shape_for(pairs, aim, letters, 20, false);
         shape.singles = 0;
@@ -643,37 +845,113 @@ fn part_b(random: &mut Random, effort: Effort, buffers: &mut Buffers) {
         let parity = Parity::of_table(&shape.search(random, aim, buffers), buffers);
         let long = draw_word(random, LONGEST, letters);
         let short = draw_word(random, 4, letters);
-        parity.bench("parity, loop 65,535", 3, &[], &long, effort);
-        parity.bench("parity, lead 65,535, loop 1", 3, &long, &[1], effort);
-        parity.bench("parity, loop 4", 3, &[], &short, effort);
+        parity.bench(
+            "parity, loop 65,535",
+            &JUDGES,
+            &[],
+            &long,
+            effort,
+            &mut bars,
+        );
+        parity.bench(
+            "parity, lead 65,535, loop 1",
+            &JUDGES,
+            &long,
+            &[1],
+            effort,
+            &mut bars,
+        );
+        parity.bench("parity, loop 4", &JUDGES, &[], &short, effort, &mut bars);
     }
     let ring = Parity::ring(random, 1_024, 16);
-    ring.bench("parity ring, loop 1,023", 3, &[], &long[..1_023], effort);
+    ring.bench(
+        "parity ring, loop 1,023",
+        &JUDGES,
+        &[],
+        &long[..1_023],
+        effort,
+        &mut bars,
+    );
     let ring = Parity::ring(random, MOST_ROWS, 16);
-    ring.bench("parity ring, loop 15", 3, &[], &long[..15], effort);
-    ring.bench("parity ring, loop 1", 3, &[], &[0], effort);
+    ring.bench(
+        "parity ring, loop 15",
+        &JUDGES,
+        &[],
+        &long[..15],
+        effort,
+        &mut bars,
+    );
+    ring.bench("parity ring, loop 1", &JUDGES, &[], &[0], effort, &mut bars);
     if effort.tables >= 1_000 {
         let once = Effort {
             case: Duration::ZERO,
             rounds: 2,
             ..effort
         };
-        ring.bench("parity ring, loop 65,535", 2, &[], &long, once);
+        ring.bench(
+            "parity ring, loop 65,535",
+            &FAST_JUDGES,
+            &[],
+            &long,
+            once,
+            &mut bars,
+        );
     }
     let card = Parity::of_table(&CARD, buffers);
-    card.bench("parity T, loop 0 1", 3, &[], &[0, 1], effort);
-    card.bench("parity T, loop 1 1 0 0", 3, &[], &[1, 1, 0, 0], effort);
+    card.bench(
+        "parity T, loop 0 1",
+        &JUDGES,
+        &[],
+        &[0, 1],
+        effort,
+        &mut bars,
+    );
+    card.bench(
+        "parity T, loop 1 1 0 0",
+        &JUDGES,
+        &[],
+        &[1, 1, 0, 0],
+        effort,
+        &mut bars,
+    );
     let single = Parity::of_table(&one(1, 0), buffers);
-    single.bench("parity one row, loop 0", 3, &[], &[0], effort);
+    single.bench(
+        "parity one row, loop 0",
+        &JUDGES,
+        &[],
+        &[0],
+        effort,
+        &mut bars,
+    );
+    println!(
+        "\n    summary (b), judges: largest p/tuned from 1,000 letters read on: Rabin {}; parity from 500 rows on {}; of shorter reads {}",
+        bars.rabin.largest(),
+        bars.parity.largest(),
+        bars.short.largest()
+    );
 }
 
 /// Part (c): how the times grow with rows and with loops.
 fn part_c(random: &mut Random, effort: Effort, buffers: &mut Buffers) {
     println!("\n(c) growth: nanoseconds for a cell (row and letter), marks 0.2 by cell\n");
     println!(
-        "{:>6} {:>6} {:>8} {:>8} {:>8} {:>8} {:>8} {:>8} {:>8}",
-        "aim", "rows", "letters", "states", "pairs", "proved", "tuned", "orders", "p/tuned"
+        "{:>6} {:>6} {:>8} {:>8} {:>6} {:>8} {:>8} {:>8} {:>8} {:>8} {:>8} {:>9} {:>8} {:>8}",
+        "aim",
+        "rows",
+        "letters",
+        "states",
+        "pairs",
+        "proved",
+        "tuned",
+        "plain",
+        "p/tuned",
+        "p/plain",
+        "special",
+        "p/special",
+        "orders",
+        "p/orders"
     );
+    let (mut large, mut growth) = (Range::default(), [(); 2].map(|_| Range::default()));
     let family = [
         (vec![(1, 4)], 8),
         (vec![(2, 4)], 16),
@@ -684,7 +962,7 @@ fn part_c(random: &mut Random, effort: Effort, buffers: &mut Buffers) {
         (vec![(17, 5)], 8),
         (vec![(34, 5)], 16),
     ];
-    for letters in [16, 4] {
+    for (letters, growth) in [16, 4].into_iter().zip(&mut growth) {
         for (step, (parts, singles)) in family.iter().enumerate() {
             let (parts, singles, aim) = (parts.clone(), *singles, 32 << step);
             let shape = Shape {
@@ -696,34 +974,57 @@ fn part_c(random: &mut Random, effort: Effort, buffers: &mut Buffers) {
             };
             let table = shape.search(random, aim, buffers);
             let measured = measure_translation(&table, aim, effort.rounds, effort.case, buffers);
-            let cells = (measured.answer.rows * letters) as f64;
+            let rows = measured.answer.rows;
             let times = &measured.times;
+            let each = times.map(|time| time / (rows * letters) as f64);
+            let case = format!("{rows} rows, {letters} letters");
+            growth.note(each[PROVED], &case);
+            if rows >= LARGE {
+                large.note(against(times, TUNED), &case);
+            }
             println!(
-                "{aim:>6} {:>6} {letters:>8} {:>8} {:>8} {:>8.2} {:>8.2} {:>8.2} {:>8.2}",
-                measured.answer.rows,
+                "{aim:>6} {rows:>6} {letters:>8} {:>8} {:>6} {:>8.2} {:>8.2} {:>8.2} {:>8} {:>8} {:>8.2} {:>9} {:>8.2} {:>8}",
                 table[0],
                 table[2],
-                times[0] / cells,
-                times[1] / cells,
-                times[3] / cells,
-                times[0] / times[1]
+                each[PROVED],
+                each[TUNED],
+                each[PLAIN],
+                ratio(times, TUNED),
+                ratio(times, PLAIN),
+                each[SPECIAL],
+                ratio(times, SPECIAL),
+                each[ORDERS],
+                ratio(times, ORDERS)
             );
         }
     }
-
-    println!("\n    loops doubled: nanoseconds for a letter read, 16 letters\n");
     println!(
-        "{:>8} {:>10} {:>8} {:>8} {:>8} {:>10} {:>8} {:>8} {:>8}",
+        "\n    summary (c), translator: largest p/tuned from 500 rows on {}; proved, ns for a cell: {} to {}, and {} to {}",
+        large.largest(),
+        growth[0].smallest(),
+        growth[0].largest(),
+        growth[1].smallest(),
+        growth[1].largest()
+    );
+
+    println!("\n    loops doubled: nanoseconds for a letter read, 16 letters; the tables are checked whole\n");
+    println!(
+        "{:>8} {:>10} {:>8} {:>8} {:>8} {:>8} {:>9} {:>10} {:>8} {:>8} {:>8} {:>8} {:>9}",
         "loop",
         "Rabin read",
         "proved",
         "tuned",
         "p/tuned",
+        "special",
+        "p/special",
         "par. read",
         "proved",
         "tuned",
-        "p/tuned"
+        "p/tuned",
+        "special",
+        "p/special"
     );
+    let mut bars = JudgeBars::default();
     let shape = Shape {
         parts: vec![(64, 6)],
         singles: 0,
@@ -737,46 +1038,62 @@ fn part_c(random: &mut Random, effort: Effort, buffers: &mut Buffers) {
     let parity = Parity::of_table(&shape.search(random, MOST_ROWS, buffers), buffers);
     for doubled in (4..=16).map(|power| (1usize << power).min(LONGEST)) {
         let word = draw_word(random, doubled, 16);
-        let step = |state: usize, a: u8| wide[4 + state * 16 + a as usize] as usize;
-        let rabin_read = letters_read(0, &[], &word, step) as f64;
-        let rabin = measure_judges(2, effort.rounds, effort.case, |side| {
-            RABIN_JUDGES[side](black_box(&wide), &[], black_box(&word))
-        });
-        let step = |row: usize, a: u8| parity.targets[row * 16 + a as usize] as usize;
-        let parity_read = letters_read(0, &[], &word, step) as f64;
-        let times = parity.times(2, &[], &word, effort);
+        let (rabin_read, rabin) = time_rabin(&wide, &FAST_JUDGES, &[], &word, effort);
+        let (parity_read, times) = parity.time(&FAST_JUDGES, &[], &word, effort);
+        let case = format!("loop {doubled}");
+        bars.note(&case, None, rabin_read, &rabin);
+        bars.note(&case, Some(parity.rows), parity_read, &times);
+        let rabin_each = rabin.map(|time| time / rabin_read as f64);
+        let each = times.map(|time| time / parity_read as f64);
         println!(
-            "{doubled:>8} {rabin_read:>10} {:>8.2} {:>8.2} {:>8.2} {parity_read:>10} {:>8.2} {:>8.2} {:>8.2}",
-            rabin[0] / rabin_read,
-            rabin[1] / rabin_read,
-            rabin[0] / rabin[1],
-            times[0] / parity_read,
-            times[1] / parity_read,
-            times[0] / times[1]
+            "{doubled:>8} {rabin_read:>10} {:>8.2} {:>8.2} {:>8} {:>8.2} {:>9} {parity_read:>10} {:>8.2} {:>8.2} {:>8} {:>8.2} {:>9}",
+            rabin_each[PROVED],
+            rabin_each[TUNED],
+            ratio(&rabin, TUNED),
+            rabin_each[SPECIAL],
+            ratio(&rabin, SPECIAL),
+            each[PROVED],
+            each[TUNED],
+            ratio(&times, TUNED),
+            each[SPECIAL],
+            ratio(&times, SPECIAL)
         );
     }
 
     println!("\n    passes doubled: rings of rows, loop of 255, nanoseconds for a letter read\n");
     println!(
-        "{:>8} {:>10} {:>8} {:>8} {:>8}",
-        "rows", "read", "proved", "tuned", "p/tuned"
+        "{:>8} {:>10} {:>8} {:>8} {:>8} {:>8} {:>9}",
+        "rows", "read", "proved", "tuned", "p/tuned", "special", "p/special"
     );
+    let mut growth = Range::default();
     for rows in (5..=12).map(|power| 1usize << power) {
         let ring = Parity::ring(random, rows, 16);
         let word = draw_word(random, 255, 16);
-        let read = (rows * 255) as f64;
-        let times = ring.times(2, &[], &word, effort);
+        let (read, times) = ring.time(&FAST_JUDGES, &[], &word, effort);
+        let case = format!("ring of {rows} rows");
+        bars.note(&case, Some(rows), read, &times);
+        let each = times.map(|time| time / read as f64);
+        growth.note(each[PROVED], &case);
         println!(
-            "{rows:>8} {read:>10} {:>8.2} {:>8.2} {:>8.2}",
-            times[0] / read,
-            times[1] / read,
-            times[0] / times[1]
+            "{rows:>8} {read:>10} {:>8.2} {:>8.2} {:>8} {:>8.2} {:>9}",
+            each[PROVED],
+            each[TUNED],
+            ratio(&times, TUNED),
+            each[SPECIAL],
+            ratio(&times, SPECIAL)
         );
     }
+    println!(
+        "\n    summary (c), judges: largest p/tuned from 1,000 letters read on: Rabin {}; parity from 500 rows on {}; proved, ns for a letter of a ring: {} to {}",
+        bars.rabin.largest(),
+        bars.parity.largest(),
+        growth.smallest(),
+        growth.largest()
+    );
 }
 
-/// Runs only the proved side on a fixed input, for a profiler.
-fn profile(what: &str, buffers: &mut Buffers) {
+/// Runs only one side on a fixed input, for a profiler.
+fn profile(what: &str, side: usize, buffers: &mut Buffers) {
     let mut random = Random::new(1);
     let shape = Shape {
         parts: vec![(5, 6)],
@@ -788,14 +1105,18 @@ fn profile(what: &str, buffers: &mut Buffers) {
     let table = shape.search(&mut random, 3_600, buffers);
     let parity = Parity::of_table(&table, buffers);
     let word = draw_word(&mut random, LONGEST, 16);
-    for _ in 0..200 {
+    let calls = if what == "profile-tiny" { 20_000 } else { 200 };
+    for _ in 0..calls {
         match what {
             "profile-translate" => {
-                black_box(buffers.translate(0, &table, MOST_ROWS));
+                black_box(buffers.translate(side, &table, MOST_ROWS));
+            }
+            "profile-tiny" => {
+                black_box(buffers.translate(side, &CARD, 4));
             }
             "profile-parity" => {
                 let (targets, priorities) = (&parity.targets, &parity.priorities);
-                black_box(calls::judge_parity(
+                black_box(PARITY_JUDGES[side](
                     parity.rows,
                     16,
                     targets,
@@ -805,7 +1126,7 @@ fn profile(what: &str, buffers: &mut Buffers) {
                 ));
             }
             _ => {
-                black_box(calls::judge_rabin(&table, &[], &word));
+                black_box(RABIN_JUDGES[side](&table, &[], &word));
             }
         }
     }
@@ -820,8 +1141,10 @@ fn main() {
         "c",
         "quick",
         "profile-translate",
+        "profile-tiny",
         "profile-parity",
         "profile-rabin",
+        "tuned",
     ];
     if let Some(word) = words.iter().find(|word| !known.contains(&word.as_str())) {
         eprintln!("unknown word {word}; known are {}", known.join(", "));
@@ -829,7 +1152,8 @@ fn main() {
     }
     let mut buffers = Buffers::new();
     if let Some(word) = words.iter().find(|word| word.starts_with("profile-")) {
-        profile(word, &mut buffers);
+        let tuned = words.iter().any(|word| word == "tuned");
+        profile(word, if tuned { TUNED } else { PROVED }, &mut buffers);
         return;
     }
     let seed = match std::env::var("SEED").map(|text| text.trim().parse()) {
@@ -857,9 +1181,16 @@ fn main() {
     println!("seed {seed}; each time is the smallest of several rounds in which the sides take");
     println!("turns on the same input; a slice of a round is about a millisecond or one call; the");
     println!("lent arrays are allocated once, shared by all sides and not cleared between calls.");
-    println!("proved: the proved library; tuned: packed records and a hashed index; plain: the");
-    println!("plain implementation, in fewer rounds; orders: tuned, with all orders of six pairs");
-    println!("tabulated when compiled; p/x: the proved side's time divided by that of x.");
+    println!("proved: the proved library; tuned: the tuned conventional implementation (packed");
+    println!("records, early out, good hash; judges with repetition detection); plain: the plain");
+    println!(
+        "implementation, in fewer rounds; special: tuned with equal letters of a state grouped"
+    );
+    println!(
+        "and copies of the row loop for each record length, judges with copies of the walk for"
+    );
+    println!("each number of letters; orders: all orders of six pairs tabulated when compiled;");
+    println!("p/x: the proved side's time divided by that of x; every result is compared.");
     let chosen = |part: &str| {
         words.iter().all(|word| word == "quick") || words.iter().any(|word| word == part)
     };

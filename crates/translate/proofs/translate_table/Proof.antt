@@ -44,6 +44,31 @@ module _ (c : tie.Else1) where
   counted-listed =
       survey-listed bytes _ _ _ _ is-taken (c .if1 .left) (survey .survey-table .kept .1 .1 .0) (survey .survey-table .ensures .counted-array)
 
+slice-aggregate-survey-table : tie.Need-slice-aggregate-survey-table
+slice-aggregate-survey-table c = search needs
+
+slice-aggregate-survey-table-2 : tie.Need-slice-aggregate-survey-table-2
+slice-aggregate-survey-table-2 c = search needs
+
+survey-table-requires : tie.Need-survey-table-requires
+survey-table-requires c κs = search needs
+
+returns : tie.Need-returns
+returns c = promised (translate-refused _ _ _ _ _ _ _ (table-refusal (c .before .before .before)) (c .if1 .taken))
+
+shared-slice-read-m : tie.Need-shared-slice-read-m
+shared-slice-read-m c = omega (arith, checked (c .before))
+
+cast-m : tie.Need-cast-m
+cast-m c = omega (arith, checked (c .before))
+
+are-short-requires : tie.Need-are-short-requires
+are-short-requires c κs = omega (arith, checked (c .before))
+
+returns-2 : tie.Need-returns-2
+returns-2 c =
+    promised (translate-short _ (is-taken (c .before .before .before)) _ _ _ _ _ (sym (c .before .are-short .ensures) ∙ c .if2 .taken))
+
 -- the arrays are not too short
 module _ (c : tie.Else2) where
   abbrev taken : tie.Else1
@@ -71,31 +96,6 @@ cleared c = c .before .before .before .before .before .before .before .before
 
 abbrev kept : tie.After-clear-rows → tie.After-kept-rows
 kept c = c .before .before .before .before .before
-
-slice-aggregate-survey-table : tie.Need-slice-aggregate-survey-table
-slice-aggregate-survey-table c = search needs
-
-slice-aggregate-survey-table-2 : tie.Need-slice-aggregate-survey-table-2
-slice-aggregate-survey-table-2 c = search needs
-
-survey-table-requires : tie.Need-survey-table-requires
-survey-table-requires c κs = search needs
-
-returns : tie.Need-returns
-returns c = promised (translate-refused _ _ _ _ _ _ _ (table-refusal (c .before .before .before)) (c .if1 .taken))
-
-shared-slice-read-m : tie.Need-shared-slice-read-m
-shared-slice-read-m c = omega (arith, checked (c .before))
-
-cast-m : tie.Need-cast-m
-cast-m c = omega (arith, checked (c .before))
-
-are-short-requires : tie.Need-are-short-requires
-are-short-requires c κs = omega (arith, checked (c .before))
-
-returns-2 : tie.Need-returns-2
-returns-2 c =
-    promised (translate-short _ (is-taken (c .before .before .before)) _ _ _ _ _ (sym (c .before .are-short .ensures) ∙ c .if2 .taken))
 
 slice-aggregate-write-rows : tie.Need-slice-aggregate-write-rows
 slice-aggregate-write-rows c = search needs

@@ -1,12 +1,12 @@
 -- `judge::parity::read_piece` meets its contract. The invariant: the letters below i lead from the first row to this one, and the
 -- largest priority on the way is `peak`.
-use mathlib.Core.Path.{_≡_, ap, _∙_, subst, subst⁻¹}
+use mathlib.Core.Path.{_≡_, sym, ap, _∙_, subst, subst⁻¹}
 use Prim.Native.Nat.{ℕ, _-_, _*_, _+_, _≤_, _<_, max}
 use native.Mathlib.Omega.{arith}
 use borrow.Author.Needs.{needs}
 use borrow.Author.Tests.{le-ltb}
 use lib.Dec.{ltb}
-use lib.ListN.{length, getD, take}
+use lib.ListN.{length, getD, take, drop}
 use lib.Seq.{take-all}
 use Rattle.rules.specs.Limits.{noRow}
 use Rattle.rules.specs.Judges.{paritySystem, priorityAt}
@@ -17,7 +17,7 @@ use Rattle.rules.proofs.Refusals.{TakenParity, taken-parity}
 use Rattle.tables.proofs.Cells.{cell-within}
 use Rattle.judge.specs.Passes.{Met}
 use Rattle.judge.proofs.Sums.{largest-joins}
-use Rattle.judge.proofs.Pieces.{letter-below, read-more, read-misses, met-letter}
+use Rattle.judge.proofs.Pieces.{letter-below, read-more, read-misses, met-letter, column-long, column-at}
 use Rattle.judge.proofs.parity.read_piece.Statement.{statement}
 use Rattle.judge.proofs.parity.read_piece.Tie as tie
 
@@ -55,38 +55,59 @@ module _ (c : tie.In-loop Inv-loop μ-loop) where
   within : place * s .args .letters + letter < s .args .rows * s .args .letters
   within = cell-within _ _ _ _ (c .before .loop .inv .1) letter-ok
 
-  goes : system .go place letter ≡ getD (s .args .targets .now) (place * s .args .letters + letter) 0
-  goes = getD-any (s .args .targets .now) (place * s .args .letters + letter) noRow 0 (omega (arith, within, table .target-cells))
+  -- what stands in the letter's column is where the transition goes
+  abbrev found : ℕ
+  found = getD (take (length (s .args .targets .now) - letter) (drop letter (s .args .targets .now))) (place * s .args .letters) 0
 
-mul-cell : tie.Need-mul-cell Inv-loop μ-loop
-mul-cell c = omega (arith, within c, table c .most-cells)
+  cell-found : found ≡ getD (s .args .targets .now) (place * s .args .letters + letter) 0
+  cell-found = column-at (s .args .targets .now) letter (place * s .args .letters) (omega (arith, within, table .target-cells))
 
-shared-slice-read-cell : tie.Need-shared-slice-read-cell Inv-loop μ-loop
-shared-slice-read-cell c = omega arith
+  goes : system .go place letter ≡ found
+  goes = getD-any (s .args .targets .now) (place * s .args .letters + letter) noRow 0 (omega (arith, within, table .target-cells)) ∙ sym cell-found
 
-cast-cell : tie.Need-cast-cell Inv-loop μ-loop
-cast-cell c = omega (arith, letter-ok (c .before), table (c .before) .most-letters)
+shared-slice-read-letter : tie.Need-shared-slice-read-letter Inv-loop μ-loop
+shared-slice-read-letter c = omega arith
 
-add-cell : tie.Need-add-cell Inv-loop μ-loop
-add-cell c = omega (arith, within (c .before), table (c .before) .most-cells)
+cast-letter : tie.Need-cast-letter Inv-loop μ-loop
+cast-letter c = omega (arith, letter-ok (c .before), table (c .before) .most-letters)
+
+mul-first : tie.Need-mul-first Inv-loop μ-loop
+mul-first c = omega (arith, within (c .before), table (c .before) .most-cells)
+
+mul-column : tie.Need-mul-column Inv-loop μ-loop
+mul-column c = omega (arith, letter-ok (c .before), table (c .before) .most-letters)
+
+sub-column : tie.Need-sub-column Inv-loop μ-loop
+sub-column c = omega (arith, within (c .before), table (c .before) .target-cells)
+
+part-column-start : tie.Need-part-column-start Inv-loop μ-loop
+part-column-start c = omega (arith, within (c .before), table (c .before) .target-cells)
+
+part-column-end : tie.Need-part-column-end Inv-loop μ-loop
+part-column-end c = omega (arith, within (c .before), table (c .before) .target-cells)
 
 mul-target : tie.Need-mul-target Inv-loop μ-loop
-mul-target c = omega (arith, within (c .before), table (c .before) .most-cells)
+mul-target c = omega (arith, within (c .before .before), table (c .before .before) .most-cells)
 
 shared-slice-read-target : tie.Need-shared-slice-read-target Inv-loop μ-loop
-shared-slice-read-target c = omega (arith, within (c .before .before), table (c .before .before) .target-cells)
+shared-slice-read-target c =
+    let t = c .before .before .before in omega (arith, within t, table t .target-cells, column-long (s t .args .targets .now) (letter t) (omega (arith, within t, table t .target-cells)))
 
 cast-target : tie.Need-cast-target Inv-loop μ-loop
-cast-target c = omega (arith, c .shared-slice-known5 .given (place (c .before .before) * s (c .before .before) .args .letters + letter (c .before .before)))
+cast-target c =
+    let t = c .before .before .before in omega (arith, c .shared-slice-known5 .given (place t * s t .args .letters))
 
 returns : tie.Need-returns Inv-loop μ-loop
 returns c =
-    let t = c .before .before .before in
+    let t = c .before .before .before .before in
     let gone = c .if1 .taken in
     (record { leads = λ l. absurd (omega (arith, gone, l)); misses = λ l. read-misses (system t) _ _ _ _ (t .before .loop .inv .2) (t .loop-test .taken) (letter-ok t) (subst⁻¹ (λ (z : ℕ). s t .args .rows ≤ z) (goes t) gone) }, λ l. absurd (omega (arith, gone, l)))
 
+add-larger : tie.Need-add-larger Inv-loop μ-loop
+add-larger c = omega (arith, within (c .before .before .before .before), table (c .before .before .before .before) .most-cells)
+
 shared-slice-read-larger : tie.Need-shared-slice-read-larger Inv-loop μ-loop
-shared-slice-read-larger c = omega (arith, within (c .before .before .before .before), table (c .before .before .before .before) .priority-cells)
+shared-slice-read-larger c = omega (arith, within (c .before .before .before .before .before), table (c .before .before .before .before .before) .priority-cells)
 
 larger-requires : tie.Need-larger-requires Inv-loop μ-loop
 larger-requires c κs = tt
@@ -99,7 +120,7 @@ loop-less c = omega arith
 
 loop-again : tie.Need-loop-again Inv-loop μ-loop
 loop-again c =
-    let t = c .before .before .before .before .before in
+    let t = c .before .before .before .before .before .before in
     let on = c .before .before .if1 .left in
     (omega arith, on, subst (Path (system t) (s t .args .from) _) (goes t) (read-more (system t) _ _ _ _ (t .before .loop .inv .2) (t .loop-test .taken) (letter-ok t) (subst⁻¹ (λ (z : ℕ). z < s t .args .rows) (goes t) on)), λ k. ap (ltb k) (c .larger .ensures) ∙ met-letter (system t) _ _ _ _ (t .before .loop .inv .2) (t .loop-test .taken) ltb (priorityAt (s t .args .letters) (s t .args .priorities .now)) max largest-joins _ (t .before .loop .inv .3) k)
 
@@ -116,14 +137,18 @@ read-piece-spec =
     Inv-loop
     μ-loop
     loop-holds
-    mul-cell
-    shared-slice-read-cell
-    cast-cell
-    add-cell
+    shared-slice-read-letter
+    cast-letter
+    mul-first
+    mul-column
+    sub-column
+    part-column-start
+    part-column-end
     mul-target
     shared-slice-read-target
     cast-target
     returns
+    add-larger
     shared-slice-read-larger
     larger-requires
     add-i

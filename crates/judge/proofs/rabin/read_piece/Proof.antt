@@ -1,10 +1,10 @@
 -- `judge::rabin::read_piece` meets its contract. The invariant: the first i letters lead to the place, and the marks met on the way are kept.
-use mathlib.Core.Path.{_≡_}
+use mathlib.Core.Path.{_≡_, sym, ap, _∙_, subst, subst⁻¹}
 use mathlib.Core.List.{List}
 use Prim.Native.Nat.{ℕ, _+_, _-_, _*_, _<_, _≤_}
 use native.Mathlib.Omega.{arith}
 use lib.Bits.{bitOr}
-use lib.ListN.{length, getD, take}
+use lib.ListN.{length, getD, take, drop}
 use lib.Seq.{take-all}
 use Rattle.rules.specs.Basics.{bit}
 use Rattle.rules.specs.Limits.{headerSize}
@@ -18,7 +18,7 @@ use Rattle.tables.specs.Parts.{systemIn}
 use Rattle.tables.proofs.Cells.{cell-within}
 use Rattle.judge.specs.Passes.{Met, MissesAfter, prohibitedMarks, requiredMarks}
 use Rattle.judge.proofs.Sums.{union-joins}
-use Rattle.judge.proofs.Pieces.{letter-below, read-more, read-misses, met-letter}
+use Rattle.judge.proofs.Pieces.{letter-below, read-more, read-misses, met-letter, column-long, column-at}
 use Rattle.judge.proofs.Marks.{target-read, prohibited-read, required-read}
 use Rattle.judge.proofs.rabin.read_piece.Statement.{statement}
 use Rattle.judge.proofs.rabin.read_piece.Tie as tie
@@ -61,9 +61,6 @@ module _ (c : tie.In-loop Inv-loop μ-loop) where
   abbrev letter : ℕ
   letter = getD piece i 0
 
-  abbrev targetPlace : ℕ
-  targetPlace = headerSize + cell (s .letters) place letter
-
   path : Path s from (take i piece) place
   path = c .before .loop .inv .1
 
@@ -76,14 +73,24 @@ module _ (c : tie.In-loop Inv-loop μ-loop) where
   placed : TakenTable bs × (cell (s .letters) place letter < s .states * s .letters)
   placed = (known start, cell-within (s .states) (s .letters) place letter place-below letter-known)
 
-  target-is : s .go place letter ≡ getD bs targetPlace 0
-  target-is = target-read bs (start .pre .0) place letter place-below letter-known
+  -- what stands in the letter's column is where the transition goes
+  abbrev found : ℕ
+  found = getD (take (length bs - (headerSize + letter)) (drop (headerSize + letter) bs)) (place * s .letters) 0
 
-  misses : s .states ≤ getD bs targetPlace 0 → MissesAfter s from piece i
-  misses h = read-misses s from piece i place path (c .loop-test .taken) letter-known (rw target-is h)
+  target-is : s .go place letter ≡ found
+  target-is =
+      target-read bs (start .pre .0) place letter place-below letter-known
+      ∙ ap (λ (k : ℕ). getD bs k 0) (omega arith)
+      ∙ sym (column-at bs (headerSize + letter) (place * s .letters) (omega (arith, placed)))
 
-  leads : getD bs targetPlace 0 < s .states → Path s from (take (i + 1) piece) (getD bs targetPlace 0)
-  leads h = rw target-is at (read-more s from piece i place path (c .loop-test .taken) letter-known (rw target-is h))
+  misses : s .states ≤ found → MissesAfter s from piece i
+  misses h =
+      read-misses s from piece i place path (c .loop-test .taken) letter-known (subst⁻¹ (λ (z : ℕ). s .states ≤ z) target-is h)
+
+  leads : found < s .states → Path s from (take (i + 1) piece) found
+  leads h =
+      subst (Path s from (take (i + 1) piece)) target-is
+      (read-more s from piece i place path (c .loop-test .taken) letter-known (subst⁻¹ (λ (z : ℕ). z < s .states) target-is h))
 
   meets : (g : Taken → ℕ) (u v : ℕ) → g (taken place letter) ≡ v → Met bit g (passFrom s from (take i piece)) u
       → Met bit g (passFrom s from (take (i + 1) piece)) (bitOr u v)
@@ -110,46 +117,56 @@ add-marks-at c = omega (arith, known (c .before .before))
 loop-holds : tie.Need-loop-holds Inv-loop μ-loop
 loop-holds c = (omega arith, here, bit-none, bit-none)
 
-mul-cell : tie.Need-mul-cell Inv-loop μ-loop
-mul-cell c = omega (arith, placed c)
+shared-slice-read-letter : tie.Need-shared-slice-read-letter Inv-loop μ-loop
+shared-slice-read-letter c = c .before .loop-test .taken
 
-shared-slice-read-cell : tie.Need-shared-slice-read-cell Inv-loop μ-loop
-shared-slice-read-cell c = c .before .loop-test .taken
+cast-letter : tie.Need-cast-letter Inv-loop μ-loop
+cast-letter c = omega (arith, letter-known (c .before), known (start (c .before)))
 
-cast-cell : tie.Need-cast-cell Inv-loop μ-loop
-cast-cell c = omega (arith, letter-known (c .before), known (start (c .before)))
+mul-first : tie.Need-mul-first Inv-loop μ-loop
+mul-first c = omega (arith, placed (c .before))
 
-add-cell : tie.Need-add-cell Inv-loop μ-loop
-add-cell c = omega (arith, placed (c .before))
+add-start : tie.Need-add-start Inv-loop μ-loop
+add-start c = omega (arith, placed (c .before))
 
-add-target : tie.Need-add-target Inv-loop μ-loop
-add-target c = omega (arith, placed (c .before))
+sub-column : tie.Need-sub-column Inv-loop μ-loop
+sub-column c = omega (arith, placed (c .before))
+
+part-column-start : tie.Need-part-column-start Inv-loop μ-loop
+part-column-start c = omega (arith, placed (c .before))
+
+part-column-end : tie.Need-part-column-end Inv-loop μ-loop
+part-column-end c = omega (arith, placed (c .before))
 
 shared-slice-read-target : tie.Need-shared-slice-read-target Inv-loop μ-loop
-shared-slice-read-target c = omega (arith, placed (c .before .before))
+shared-slice-read-target c =
+    let t = c .before .before .before in omega (arith, placed t, column-long (bs t) (headerSize + letter t) (omega (arith, placed t)))
 
 cast-target : tie.Need-cast-target Inv-loop μ-loop
-cast-target c = omega (arith, c .shared-slice-known4 .given (targetPlace (c .before .before)))
+cast-target c = let t = c .before .before .before in omega (arith, c .shared-slice-known4 .given (place t * s t .letters))
 
 returns : tie.Need-returns Inv-loop μ-loop
 returns c =
     let absent = c .if1 .taken in
-    (record { leads = λ h. absurd (omega arith); misses = misses (c .before .before .before) }, λ h. absurd (omega arith), λ h. absurd (omega arith))
-
-mul-at : tie.Need-mul-at Inv-loop μ-loop
-mul-at c = omega (arith, placed (c .before .before .before))
+    (record { leads = λ h. absurd (omega arith); misses = misses (c .before .before .before .before) }, λ h. absurd (omega arith), λ h. absurd (omega arith))
 
 add-at : tie.Need-add-at Inv-loop μ-loop
-add-at c = omega (arith, placed (c .before .before .before))
+add-at c = omega (arith, placed (c .before .before .before .before))
+
+mul-at : tie.Need-mul-at Inv-loop μ-loop
+mul-at c = omega (arith, placed (c .before .before .before .before))
+
+add-at-2 : tie.Need-add-at-2 Inv-loop μ-loop
+add-at-2 c = omega (arith, placed (c .before .before .before .before))
 
 shared-slice-read-prohibited : tie.Need-shared-slice-read-prohibited Inv-loop μ-loop
-shared-slice-read-prohibited c = omega (arith, placed (c .before .before .before .before))
+shared-slice-read-prohibited c = omega (arith, placed (c .before .before .before .before .before))
 
 add-required : tie.Need-add-required Inv-loop μ-loop
-add-required c = omega (arith, placed (c .before .before .before .before))
+add-required c = omega (arith, placed (c .before .before .before .before .before))
 
 shared-slice-read-required : tie.Need-shared-slice-read-required Inv-loop μ-loop
-shared-slice-read-required c = omega (arith, placed (c .before .before .before .before .before))
+shared-slice-read-required c = omega (arith, placed (c .before .before .before .before .before .before))
 
 add-i : tie.Need-add-i Inv-loop μ-loop
 add-i c = omega arith
@@ -159,7 +176,7 @@ loop-less c = omega arith
 
 loop-again : tie.Need-loop-again Inv-loop μ-loop
 loop-again c =
-    let x = c .before .before .before .before .before in
+    let x = c .before .before .before .before .before .before in
     let held = x .before .loop .inv in
     let barred = prohibited-read (bs x) (start x .pre .0) (place x) (letter x) (place-below x) (letter-known x) in
     let asked = required-read (bs x) (start x .pre .0) (place x) (letter x) (place-below x) (letter-known x) in
@@ -186,16 +203,19 @@ read-piece-spec =
     mul-marks-at
     add-marks-at
     loop-holds
-    mul-cell
-    shared-slice-read-cell
-    cast-cell
-    add-cell
-    add-target
+    shared-slice-read-letter
+    cast-letter
+    mul-first
+    add-start
+    sub-column
+    part-column-start
+    part-column-end
     shared-slice-read-target
     cast-target
     returns
-    mul-at
     add-at
+    mul-at
+    add-at-2
     shared-slice-read-prohibited
     add-required
     shared-slice-read-required
