@@ -1,25 +1,19 @@
--- Where cells and texts end.
---     row-ends                the cells of a row are among those of the rows
+-- Where texts end.
 --     IsSmall n, Small xs     a number has 32 bits; every number of xs has
 --     field-length, optional-length, line-length, row-length     a field, a line and the lines of a row, where every number has 32 bits
 --     lines-reach             a head and the lines of all rows are in reach
 --     refused-reach           so is the line of a refusal
 use mathlib.Core.Bool.{Bool, true, false}
 use mathlib.Core.List.{List, _++_}
-use Prim.Native.Nat.{ℕ, suc, _*_, _≤_, _<_}
-use native.Mathlib.Nat.{suc-mul, mul-le-mul-right}
+use Prim.Native.Nat.{ℕ, _≤_, _<_}
 use native.Mathlib.Omega.{arith}
 use lib.Dec.{eqb}
 use lib.ListN.{length, getD, length-append}
 use Rattle.rules.specs.Limits.{maxLetters, maxRows, noRow}
-use Rattle.rules.specs.Systems.{cell}
 use Rattle.rules.specs.Texts.{blank, lineFeed}
 use Rattle.rules.specs.Listings.{field, optional, line, lineAt, rowLines, linesAt, lines, head, refused}
 use Rattle.rules.proofs.Texts.{numeral-length, each-length}
 use Rattle.listing_text.specs.Writing.{InReach}
-
-pub row-ends : (n m i : ℕ) → i < n → cell m i m ≤ n * m
-row-ends n m i l = let rows : suc i * m ≤ n * m = mul-le-mul-right m l in omega (arith, suc-mul i m)
 
 abbrev IsSmall : ℕ → Type 0
 IsSmall n = n < 4294967296

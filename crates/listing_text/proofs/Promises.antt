@@ -28,11 +28,10 @@ use Rattle.rules.specs.Claims.{tableRows, targets, priorities, sourceStates, re
 use Rattle.rules.specs.Says.{areShort, arraysFault, translateFault, afterwards, TranslateSays}
 use Rattle.rules.specs.Listings.{lineAt, rowLines, linesAt, lines, head, refused, tableListing, listing, ListingSays}
 use Rattle.rules.proofs.Bools.{or-none}
-use Rattle.rules.proofs.Arrays.{cells-length}
+use Rattle.rules.proofs.Arrays.{cells-length, row-ends}
 use Rattle.rules.proofs.Texts.{each-same}
 use Rattle.rules.proofs.Refusals.{TakenTable, first-zero, first-none, when-none, taken-table}
 use Rattle.listing_text.specs.Writing.{Wrote, Shown}
-use Rattle.listing_text.proofs.Bounds.{row-ends}
 
 -- ---- nothing is refused
 taken-translation : (bs : List ℕ) (c a b d e : ℕ) → translateFault bs c a b d e ≡ 0 → TakenTable bs × (length (tableRows bs c) ≤ maxRows)

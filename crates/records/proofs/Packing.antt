@@ -6,21 +6,17 @@
 --     packed-append            the word of two lists, one behind the other
 --     moved-joined, moved-small     the word after a move, from the words of its two parts, and its bound
 --     places-length, places-at, places-below     how many places are read, what stands there, and that it is below base
---     pair-raised              the pair at a position, read from the word with no pair in front
 --     position-within          a position that is not refused is one of the record
 --     no-pair-at, pair-shifted, pair-below     the pair at a position: none, as a shift finds it, and below base
 --     rising-at, rising-below  the numbers from 1 on
---     packed-places            the word of all its places is the word
 --     places-packed, pairs-packed, packed-small     the word of an ordering holds it, and nothing else
 --     moved-packed, priority-packed     a move and a priority are the same for the places of that word
 --     marked-shifted           a pair is in a set, as a shift finds it
---     moved-unmarked, priority-unmarked     the move and the priority where nothing is marked
---     last-within              the last position of a marked pair lies within the record
+--     priority-unmarked        the priority where nothing is marked
 --     marked-either            a pair of two sets together
---     decidedBy, priority-decided     the priority, from the last position of a pair with either mark
---     kept-turn, width-turn, last-turn, digit-turn     a turn at one position
+--     kept-turn, width-turn, decided-turn, digit-turn     a turn at one position
 --     digit-below              a number with one digit more stays below the next power of ten
-use mathlib.Core.Path.{_≡_, refl, sym, ap, ap₂, _∙_}
+use mathlib.Core.Path.{_≡_, refl, sym, ap, _∙_}
 use mathlib.Core.Bool.{Bool, true, false, not, _&&_, _||_, false≢true}
 use mathlib.Core.List.{List, [], _∷_, _++_, append-nil, append-assoc}
 use Prim.Native.Nat.{ℕ, zero, suc, _+_, _-_, _*_, _/_, _%_, _^_, _≤_, _<_}
@@ -40,7 +36,7 @@ use Rattle.rules.proofs.Sets.{any-append, any-find}
 use Rattle.rules.proofs.Arrays.{tabulate-at}
 use Rattle.rules.proofs.Appearance.{kept-length, keep-append, keep-free, keep-hold, others-all, marked, priority-none, moved-length}
 use Rattle.rules.proofs.RabinTables.{stood-rearranges}
-use Rattle.records.specs.Words.{limit, base, isPair, isMarked, marksIn, packed, placesOf, places, pairsIn, lastFrom, lastPosition}
+use Rattle.records.specs.Words.{limit, base, isPair, isMarked, marksIn, packed, placesOf, places, pairsIn}
 
 abbrev pub AllPairs : List ℕ → Type 0
 AllPairs o = (i : ℕ) → isIn i o ≡ true → (0 < i) × (i < base)
@@ -116,21 +112,10 @@ places-at (suc n) w (suc j) l =
     let e : w / 8 / 2 ^ (3 * j) ≡ w / 2 ^ (3 * suc j) = shr-shr w 3 (3 * j) ∙ ap (λ (s : ℕ). w / 2 ^ s) (omega arith) in
     places-at n (w / base) j (omega arith) ∙ ap (λ (x : ℕ). x % base) e
 
--- with no pair in front, every position of the record is read by a shift
-pub pair-raised : (w p : ℕ) → p ≤ limit → base * w / 2 ^ (3 * p) % base ≡ getD (0 ∷ places w) p 0
-pair-raised w p l =
-    let none : base * w % base ≡ 0 = omega arith in
-    let rest : base * w / base ≡ w = omega arith in
-    sym (places-at (suc limit) (base * w) p (omega arith)) ∙ ap (λ (o : List ℕ). getD o p 0) (ap₂ _∷_ none (ap (placesOf limit) rest))
-
 pub places-below : (n w : ℕ) → AllBelow (placesOf n w)
 places-below zero w i h = absurd (false≢true h)
 places-below (suc n) w i h =
     or-cases (eqb i (w % base)) (isIn i (placesOf n (w / base))) h (λ e. omega (arith, eqb-true i (w % base) e)) (places-below n (w / base) i)
-
-pub packed-places : (n w : ℕ) → w < base ^ n → packed (placesOf n w) ≡ w
-packed-places zero w l = omega arith
-packed-places (suc n) w l = let p = pow-suc 8 n in omega (arith, packed-places n (w / base) (omega arith))
 
 pub position-within : (n p : ℕ) → eqb p 0 || ltb n p ≡ false → (1 ≤ p) × (p ≤ n)
 position-within n p h =
@@ -239,10 +224,6 @@ never-any : (b : ℕ → Bool) (o : List ℕ) → ((i : ℕ) → b i ≡ false) 
 never-any b [] h = refl
 never-any b (i ∷ o) h = rw (h i, never-any b o h)
 
-pub moved-unmarked : (o : List ℕ) → moved asTheyStood (isMarked 0) o ≡ o
-moved-unmarked o =
-    let none = never-any (isMarked 0) o unmarked in rw (none-kept (isMarked 0) o none) (others-all (isMarked 0) o none)
-
 -- the bits of a byte, moved up by one so that pair 0 has one too
 pub marked-shifted : (set i : ℕ) → set < 256 → ltb i 16 && eqb (2 * set / 2 ^ (i % 16) % 2) 1 ≡ isMarked set i
 marked-shifted set zero l = let e : 2 * set / 1 % 2 ≡ 0 = rw (div-one (2 * set)) (omega arith) in rw e
@@ -269,46 +250,6 @@ marked-either p r i = by (isPair i) (λ e. rw e (bit-or (i - 1) p r)) (λ e. rw 
 pub priority-unmarked : (o : List ℕ) → priority (marksIn 0 0) o ≡ 1
 priority-unmarked o = priority-none (marksIn 0 0) o (never-any (marked (marksIn 0 0)) o (λ i. rw (unmarked i)))
 
-last-below : (b : ℕ → Bool) (o : List ℕ) (p best : ℕ) → best < p → lastFrom p b o best < p + length o
-last-below b [] p best l = omega arith
-last-below b (i ∷ o) p best l =
-    by
-    (b i)
-    (λ e. rw e (omega (arith, last-below b o (suc p) p (omega arith))))
-    (λ e. rw e (omega (arith, last-below b o (suc p) best (omega arith))))
-
-pub last-within : (b : ℕ → Bool) (o : List ℕ) → lastPosition b o ≤ length o
-last-within b o = omega (arith, last-below b o 1 0 (omega arith))
-
--- the priority that the pair at the last marked position x makes, where `pair` has the pair of each position
-abbrev pub decidedBy : Marks → (ℕ → ℕ) → ℕ → ℕ
-decidedBy m pair x = pick (eqb x 0) 1 (2 * x + pick (m .prohibited (pair x)) 1 0)
-
-module _ (m : Marks) (either : ℕ → Bool) (tests : (i : ℕ) → either i ≡ m .prohibited i || m .required i) where
-  last-from : (pair : ℕ → ℕ) (o : List ℕ) (p x best : ℕ) → 1 ≤ p → ((k : ℕ) → k < length o → pair (p + k) ≡ getD o k 0)
-      → best ≡ decidedBy m pair x → priorityFrom p m o best ≡ decidedBy m pair (lastFrom p either o x)
-  last-from pair [] p x best some at e = e
-  last-from pair (i ∷ o) p x best some at e =
-      let rest : (y v : ℕ) → v ≡ decidedBy m pair y → priorityFrom (suc p) m o v ≡ decidedBy m pair (lastFrom (suc p) either o y) = λ y v. last-from pair o (suc p) y v (omega arith) behind in
-      rw (tests i)
-      (by
-      (m .prohibited i)
-      (λ f. rw f (rest p (suc (2 * p)) (rw (some-place, here, f) (omega arith))))
-      (λ f. by (m .required i) (λ g. rw (f, g) (rest p (2 * p) (rw (some-place, here, f) (omega arith)))) (λ g. rw (f, g) (rest x best e))))
-    where
-      here : pair p ≡ i
-      here = let z : p + 0 ≡ p = omega arith in rw z at (at 0 (omega arith))
-
-      some-place : eqb p 0 ≡ false
-      some-place = ne-eqb p 0 (λ z. omega arith)
-
-      behind : (k : ℕ) → k < length o → pair (suc p + k) ≡ getD o k 0
-      behind k l = let z : suc p + k ≡ p + suc k = omega arith in rw z (at (suc k) (omega arith))
-
-  pub priority-decided : (o : List ℕ) → priority m o ≡ decidedBy m (λ j. getD (0 ∷ o) j 0) (lastPosition either o)
-  priority-decided o =
-      last-from (λ j. getD (0 ∷ o) j 0) o 1 0 1 (omega arith) (λ k l. let z : 1 + k ≡ suc k = omega arith in rw z) refl
-
 -- ---- a turn at position p, whose pair is i
 module _ (o : List ℕ) (p i : ℕ) (within : p ≤ length o) (here : i ≡ getD (0 ∷ o) p 0) where
   from-here : drop p (0 ∷ o) ≡ i ∷ drop p o
@@ -327,9 +268,16 @@ module _ (o : List ℕ) (p i : ℕ) (within : p ≤ length o) (here : i ≡ getD
       width-turn e f =
           f ∙ rw (from-before, e, tested) (by (b i) (λ t. rw t (sym (pow-succ' 8 (length (keep b (drop p o)))))) (λ t. rw t))
 
-    -- forwards: what is still to be found behind p, and from p on
-    pub last-turn : w ≡ pick goes p v → lastFrom (suc p) b (drop p o) w ≡ lastFrom p b (drop p (0 ∷ o)) v
-    last-turn f = rw (from-here, f, tested)
+  -- forwards: what is still to be found behind p, and from p on
+  pub decided-turn : (m : Marks) (odd hit : Bool) → odd ≡ m .prohibited i → hit ≡ m .prohibited i || m .required i
+      → (v w : ℕ) → w ≡ pick hit (2 * p + pick odd 1 0) v → priorityFrom (suc p) m (drop p o) w ≡ priorityFrom p m (drop p (0 ∷ o)) v
+  decided-turn m odd hit o-is h-is v w f =
+      let decided : w ≡ priorityWith p m i v = f ∙ rw (o-is, h-is) turned in
+      ap (priorityFrom (suc p) m (drop p o)) decided ∙ rw from-here
+    where
+      turned : pick (m .prohibited i || m .required i) (2 * p + pick (m .prohibited i) 1 0) v ≡ priorityWith p m i v
+      turned =
+          by (m .prohibited i) (λ e. rw e (omega arith)) (λ e. by (m .required i) (λ g. rw (e, g) (omega arith)) (λ g. rw (e, g)))
 
   pub digit-turn : (v w : ℕ) → w ≡ pick (isPair i) (10 * v + i) v
       → decimalFrom w (keep isPair (drop p o)) ≡ decimalFrom v (keep isPair (drop p (0 ∷ o)))

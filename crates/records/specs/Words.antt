@@ -8,13 +8,11 @@
 --     placesOf n w         the first n places of a word
 --     places w             the places of a record's word
 --     pairsIn w            the ordering that a record's word holds: its places that are used
---     lastFrom p b o best  the last position of o, which begins at position p, whose pair passes the test b; best if there is none
---     lastPosition b o     the largest position of a pair that passes the test b, 0 if there is none
 use mathlib.Core.Bool.{Bool, not, _&&_}
 use mathlib.Core.List.{List, [], _∷_}
 use Prim.Native.Nat.{ℕ, zero, suc, _+_, _-_, _*_, _/_, _%_}
 use lib.Dec.{eqb}
-use Rattle.rules.specs.Basics.{pick, keep, bit}
+use Rattle.rules.specs.Basics.{keep, bit}
 use Rattle.rules.specs.Limits.{maxPairs}
 use Rattle.rules.specs.Records.{Marks}
 
@@ -46,10 +44,3 @@ places w = placesOf limit w
 
 abbrev pub pairsIn : ℕ → List ℕ
 pairsIn w = keep isPair (places w)
-
-abbrev pub lastFrom : ℕ → (ℕ → Bool) → List ℕ → ℕ → ℕ
-lastFrom p b [] best = best
-lastFrom p b (i ∷ o) best = lastFrom (suc p) b o (pick (b i) p best)
-
-abbrev pub lastPosition : (ℕ → Bool) → List ℕ → ℕ
-lastPosition b o = lastFrom 1 b o 0

@@ -3,12 +3,11 @@
 // over the record's places.
 ghost use mathlib.Core.Path.{_≡_};
 ghost use Prim.Native.Nat.{_≤_, _<_, _*_, _+_};
-ghost use lib.Dec.{eqb};
 ghost use lib.ListN.{getD};
 ghost use mathlib.Core.List.{_∷_};
 ghost use Rattle.rules.specs.Basics.{pick, keep, tabulate};
 ghost use Rattle.rules.specs.Records.{asTheyStood, moved, priority, decimal};
-ghost use Rattle.records.specs.Words.{limit, base, isPair, isMarked, marksIn, packed, places, pairsIn, lastPosition};
+ghost use Rattle.records.specs.Words.{limit, base, isPair, isMarked, marksIn, packed, places, pairsIn};
 
 // The number of a pair, from 1; 0 is no pair.
 pub struct PairNumber(pub u8);
@@ -62,28 +61,22 @@ impl Record {
         PairNumber(((self.word >> shift) % 8) as u8)
     }
 
-    // The largest position of a pair of the set; 0 where there is none.
-    pub fn last_marked(self, pairs: u8) -> Position
-        ensures { λ r. ⌜ r .0 ≡ lastPosition (isMarked pairs) (places (self .word)) ⌝ }
-    {
-        let mut last = Position(0);
-        let mut p = 1;
-        while p <= Record::LIMIT {
-            let pair = self.pair_at(Position(p));
-            let hit = pair.is_in(pairs);
-            last = later(last, Position(p), hit);
-            p += 1;
-        }
-        last
-    }
-
-    // The priority of an inside transition with these marks, by the record before the move: the last pair with either mark decides.
+    // The priority of an inside transition with these marks, by the record before the move: position by position, the last pair with
+    // either mark decides.
     pub fn priority(self, prohibited: u8, required: u8) -> u8
         ensures { λ r. ⌜ r ≡ priority (marksIn prohibited required) (places (self .word)) ⌝ }
     {
-        let last = self.last_marked(prohibited | required);
-        let pair = pair_within(self.word, last);
-        decided(last, pair.is_in(prohibited))
+        let either = prohibited | required;
+        let mut best = 1;
+        let mut p = 1;
+        while p <= Record::LIMIT {
+            let pair = self.pair_at(Position(p));
+            let odd = pair.is_in(prohibited);
+            let hit = pair.is_in(either);
+            best = decided(best, Position(p), odd, hit);
+            p += 1;
+        }
+        best
     }
 
     // The record after the pairs of the set have moved to the front.
@@ -121,24 +114,12 @@ impl Record {
     }
 }
 
-// The pair at a position of the record, as `pair_at` gives it, without a branch.
-fn pair_within(word: u32, at: Position) -> PairNumber
+// The priority that a pair at a position makes of the one found before it, where the pair is hit.
+fn decided(best: u8, at: Position, odd: bool, hit: bool) -> u8
     requires { ⌜ at .0 ≤ limit ⌝ }
-    ensures { λ r. ⌜ r .0 ≡ getD (0 ∷ places word) (at .0) 0 ⌝ }
+    ensures { λ r. ⌜ r ≡ pick hit (2 * at .0 + pick odd 1 0) best ⌝ }
 {
-    let shift = 3 * at.0;
-    PairNumber((((8 * word as u64) >> shift) % 8) as u8)
-}
-
-// The priority that the pair at the last marked position makes, 1 where there is none.
-fn decided(last: Position, odd: bool) -> u8
-    requires { ⌜ last .0 ≤ limit ⌝ }
-    ensures { λ r. ⌜ r ≡ pick (eqb (last .0) 0) 1 (2 * last .0 + pick odd 1 0) ⌝ }
-{
-    if last.0 == 0 {
-        return 1;
-    }
-    2 * last.0 + odd as u8
+    if hit { 2 * at.0 + odd as u8 } else { best }
 }
 
 // The word with the pair in front, where it goes there.
@@ -155,13 +136,6 @@ fn widened(unit: u32, goes: bool) -> u32
     ensures { λ r. ⌜ r ≡ pick goes (base * unit) unit ⌝ }
 {
     unit << (3 * goes as u32)
-}
-
-// The later of two positions, where the second is hit.
-fn later(last: Position, at: Position, hit: bool) -> Position
-    ensures { λ r. ⌜ r .0 ≡ pick hit (at .0) (last .0) ⌝ }
-{
-    if hit { at } else { last }
 }
 
 // The number with one digit more, where the pair is one.

@@ -2,6 +2,7 @@
 --     getD-any                         below the length the default is not looked at
 --     tabulate-length, tabulate-at, tabulate-last, tabulate-same     a tabulated list
 --     cell-before, cell-same, cell-split     a place is the cell of one row and one letter only
+--     row-ends                         the cells of a row are among those of the rows
 --     joined-length, joined-at         lists of one length, joined: the cell of row i and letter a is number i · m + a
 --     cells-length, cells-at           one number for each letter of each row, joined
 --     tabulate-none, joined-none       where nothing passes a test, in each place or in each list
@@ -10,7 +11,7 @@ use mathlib.Core.Path.{_≡_, refl, sym, ap, _∙_}
 use mathlib.Core.Bool.{Bool, false}
 use mathlib.Core.List.{List, [], _∷_, _++_, append-assoc, map}
 use Prim.Native.Nat.{ℕ, zero, suc, _+_, _*_, _/_, _%_, _≤_, _<_}
-use native.Mathlib.Nat.{suc-mul, zero-mul, mul-le-mul, le-refl, div-add-mod', div-lt-iff-lt-mul, mod-lt}
+use native.Mathlib.Nat.{suc-mul, zero-mul, mul-le-mul, mul-le-mul-right, le-refl, div-add-mod', div-lt-iff-lt-mul, mod-lt}
 use native.Mathlib.Omega.{arith}
 use lib.Dec.{ltb}
 use lib.ListN.{length, getD, length-append, List·getD-append}
@@ -25,6 +26,9 @@ pub getD-any : (xs : List ℕ) (i d e : ℕ) → i < length xs → getD xs i d �
 getD-any [] i d e l = absurd (omega arith)
 getD-any (x ∷ xs) zero d e l = refl
 getD-any (x ∷ xs) (suc i) d e l = getD-any xs i d e (omega arith)
+
+pub row-ends : (n m i : ℕ) → i < n → cell m i m ≤ n * m
+row-ends n m i l = let rows : suc i * m ≤ n * m = mul-le-mul-right m l in omega (arith, suc-mul i m)
 
 module _ {B : Type 0} (h : ℕ → B) where
   pub tabulate-length : (n i : ℕ) → length (tabulate n i h) ≡ n

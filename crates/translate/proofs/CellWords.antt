@@ -2,7 +2,6 @@
 --     word-of-bytes        the word that the bytes of a transition give is the cell's
 --     cells-none, cells-more     no cell is written yet; one cell more
 --     rising-marked        the rising pairs of a state, from the set of the pairs that count
---     unmoved-word         the word of a record of which nothing moves
 use mathlib.Core.Path.{_≡_, refl, ap, _∙_}
 use mathlib.Core.Bool.{Bool, false, _&&_}
 use mathlib.Core.List.{List}
@@ -17,17 +16,14 @@ use lib.Seq.{getD-set-same, getD-set-other}
 use borrow.Author.Tests.{eqb-true, eqb-false, ne-eqb}
 use Rattle.rules.specs.Basics.{pick, keep, tabulate, bit, asBits}
 use Rattle.rules.specs.Limits.{maxPairs}
-use Rattle.rules.specs.Records.{asTheyStood, moved}
 use Rattle.rules.specs.Systems.{isInside, cell}
 use Rattle.rules.specs.Tables.{Table, tableOf, systemOf, prohibits, requires, counts, rising}
 use Rattle.rules.proofs.Bits.{bit-and, bit-over, as-bits-below, as-bits-at, bits-are}
 use Rattle.rules.proofs.Bools.{by}
-use Rattle.records.specs.Words.{limit, isMarked, packed, places}
-use Rattle.records.proofs.Packing.{packed-places, moved-unmarked}
+use Rattle.records.specs.Words.{limit, isMarked}
 use Rattle.tables.specs.Parts.{Taken, Listed}
 use Rattle.tables.specs.Surveys.{insideLetters, countedPairs}
 use Rattle.tables.proofs.Cells.{targetAt, target-byte, prohibitedAt, prohibits-byte, prohibits-below, requiredAt, counts-byte, counts-below}
-use Rattle.translate.specs.Keys.{span}
 use Rattle.translate.specs.Cells.{crossingWord, insideWord, cutMarks, cellWord, Cells}
 use Rattle.rules.proofs.Arrays.{cell-same}
 
@@ -112,7 +108,3 @@ rising-marked t q few = kept-within (isMarked set-of) (counts t q) limit (t .pai
     over j h =
         rw (ne-eqb j 0 (λ z. omega arith))
         (bit-over (j - 1) set-of (lt-of-lt-of-le (as-bits-below test (t .pairs)) (pow-mono {i = t .pairs} {j = j - 1} (omega arith))))
-
--- ---- records that stay
-pub unmoved-word : (set order : ℕ) → set ≡ 0 → order < span → packed (moved asTheyStood (isMarked set) (places order)) ≡ order
-unmoved-word set order e l = rw e (ap packed (moved-unmarked (places order)) ∙ packed-places limit order l)

@@ -1,5 +1,4 @@
 -- A row of a table's translation is read by a letter.
---     effect-small         the word of a record that has moved is small
 --     key-missing, key-there, key-priority, key-next     what the word of a cell, and the effect of its marks, say of the step of the row
 --                          that a key stands for
 --     key-row              the row of a number is the one that its key stands for
@@ -8,7 +7,7 @@
 use mathlib.Core.Path.{_≡_, refl, sym, ap, _∙_, subst}
 use mathlib.Core.Bool.{true, false}
 use mathlib.Core.List.{List, [], _∷_, _++_}
-use Prim.Native.Nat.{ℕ, suc, _+_, _*_, _<_, _≤_}
+use Prim.Native.Nat.{ℕ, suc, _+_, _*_, _/_, _%_, _<_, _≤_}
 use native.Mathlib.Omega.{arith}
 use lib.Dec.{eqb, ltb}
 use lib.ListN.{length, getD, set, length-set, length-append}
@@ -22,13 +21,11 @@ use Rattle.rules.specs.Tables.{Table, tableOf}
 use Rattle.rules.proofs.Bools.{by}
 use Rattle.rules.proofs.Refusals.{taken-table}
 use Rattle.rules.proofs.RabinTables.{table-same}
-use Rattle.records.specs.Words.{isMarked, packed, places}
-use Rattle.records.proofs.Packing.{moved-small, places-below, places-length}
+use Rattle.records.specs.Words.{packed}
 use Rattle.tables.specs.Parts.{Taken}
 use Rattle.tables.proofs.Cells.{cell-within}
-use Rattle.translate.specs.declared.effects.Effect.{Effect}
 use Rattle.translate.specs.Keys.{span, keyOf, rowKey, sourceIn, wordIn, keyRow, IsRow, IsKey, rowsIn}
-use Rattle.translate.specs.Cells.{crossingKind, insideKind, targetIn, cellMarks, prohibitedIn, cellWord, Entries}
+use Rattle.translate.specs.Cells.{crossingKind, insideKind, targetIn, cellMarks, cellWord, Entries}
 use Rattle.translate.specs.Effects.{IsEffect}
 use Rattle.translate.specs.Filing.{rowsAfter, Settles}
 use Rattle.translate.specs.Exploring.{Read, planIn, lettersOf, Known, LetterSays}
@@ -38,10 +35,6 @@ use Rattle.translate.proofs.CellSteps.{word-missing, word-there, word-k
 use Rattle.translate.proofs.Reading.{decoded-length, decoded-at, decoded-more, number-decoded, met-missing, met-there, target-there, step-known, read-more}
 
 -- ---- what the word of a cell, and the effect of its marks, say of the step of the row that a key stands for
-pub effect-small : (order : ℕ) (e : Effect) → IsEffect order e → e .word < span
-effect-small order e f =
-    rw (f .word) (moved-small (isMarked (prohibitedIn (e .marks))) (places order) 6 (places-below 6 order) (omega (arith, places-length 6 order)))
-
 module _ (bs : List ℕ) (taken : Taken bs) (a v word : ℕ) (code : IsKey (tableOf bs) v) (says : word ≡ cellWord (tableOf bs) (sourceIn v) a) where
   abbrev step : Step (Row (List ℕ))
   step = planIn bs .step (keyRow v) a
@@ -55,19 +48,19 @@ module _ (bs : List ℕ) (taken : Taken bs) (a v word : ℕ) (code : IsKey (tabl
   pub key-there : ltb word crossingKind ≡ false → (step .there ≡ true) × (targetIn word < tableOf bs .states) × IsRow (tableOf bs) (step .to)
   key-there h = rw says (word-there bs taken (keyRow v) (code .is-row) a (rw says at h))
 
-  module _ (e : Effect) (f : IsEffect (wordIn v) e) (marks : e .marks ≡ cellMarks word) where
-    on-memory : IsEffect (packed (keyRow v .memory)) e
-    on-memory = subst (λ (x : ℕ). IsEffect x e) memory-is f
+  module _ (e : ℕ) (f : IsEffect (wordIn v) (cellMarks word) e) where
+    on-memory : IsEffect (packed (keyRow v .memory)) (cellMarks word) e
+    on-memory = subst (λ (x : ℕ). IsEffect x (cellMarks word) e) memory-is f
 
-    pub key-priority : ltb word crossingKind ≡ false → e .priority ≡ step .prio
+    pub key-priority : ltb word crossingKind ≡ false → e / span ≡ step .prio
     key-priority h =
-        on-memory .prio ∙ rw (marks, says) (word-priority bs taken (keyRow v) (code .is-row) a (rw says at h))
+        on-memory .prio ∙ rw says (word-priority bs taken (keyRow v) (code .is-row) a (rw says at h))
 
     pub key-next : ltb word crossingKind ≡ false → (entries : List ℕ) → Entries (tableOf bs) entries
-        → pick (ltb word insideKind) (getD entries (targetIn word) 0) (keyOf (targetIn word) (e .word)) ≡ rowKey (step .to)
+        → pick (ltb word insideKind) (getD entries (targetIn word) 0) (keyOf (targetIn word) (e % span)) ≡ rowKey (step .to)
     key-next h entries x =
         rw
-        (x .entry (targetIn word) (key-there h .1), on-memory .word, marks, says)
+        (x .entry (targetIn word) (key-there h .1), on-memory .word, says)
         (word-key bs taken (keyRow v) (code .is-row) a (rw says at h))
 
 -- ---- a letter is read

@@ -5,6 +5,7 @@ pub mod Clearing
 pub mod RowKeys
 pub mod CellWords
 pub mod CellSteps
+pub mod Alike
 pub mod Settling
 pub mod Reading
 pub mod Letters

@@ -1,12 +1,26 @@
 -- What marks do to a record.
---     IsEffect order e     e is what its marks do to the record whose word is `order`: the record after the move, and the priority
+--     IsEffect order marks e       e is what the marks do to the record whose word is `order`: the word after the move, and above it the priority
+--     SameMarks first m cells      the m cells from `first` on have the same marks
+--     EffectsOn order first m cells same effects     the effects of those cells on a record, one for all where they are the same
 use mathlib.Core.Path.{_≡_}
-use Prim.Native.Nat.{ℕ}
+use mathlib.Core.Bool.{Bool}
+use mathlib.Core.List.{List}
+use Prim.Native.Nat.{ℕ, _+_, _*_, _/_, _%_, _<_}
+use lib.ListN.{getD}
+use Rattle.rules.specs.Basics.{pick}
 use Rattle.rules.specs.Records.{asTheyStood, moved, priority}
 use Rattle.records.specs.Words.{isMarked, marksIn, packed, places}
-use Rattle.translate.specs.declared.effects.Effect.{Effect}
-use Rattle.translate.specs.Cells.{prohibitedIn, requiredIn}
+use Rattle.translate.specs.Keys.{span}
+use Rattle.translate.specs.Cells.{cellMarks, prohibitedIn, requiredIn}
 
-pub record IsEffect (order : ℕ) (e : Effect) : Type 0 where
-  pub word : e .word ≡ packed (moved asTheyStood (isMarked (prohibitedIn (e .marks))) (places order))
-  pub prio : e .priority ≡ priority (marksIn (prohibitedIn (e .marks)) (requiredIn (e .marks))) (places order)
+pub record IsEffect (order marks e : ℕ) : Type 0 where
+  pub small : e < 256 * span
+  pub word : e % span ≡ packed (moved asTheyStood (isMarked (prohibitedIn marks)) (places order))
+  pub prio : e / span ≡ priority (marksIn (prohibitedIn marks) (requiredIn marks)) (places order)
+
+abbrev pub SameMarks : ℕ → ℕ → List ℕ → Type 0
+SameMarks first m cells = (a : ℕ) → a < m → cellMarks (getD cells (first + a) 0) ≡ cellMarks (getD cells first 0)
+
+abbrev pub EffectsOn : ℕ → ℕ → ℕ → List ℕ → Bool → List ℕ → Type 0
+EffectsOn order first m cells same effects =
+    (a : ℕ) → a < m → IsEffect order (cellMarks (getD cells (first + a) 0)) (getD effects (pick same 0 a) 0)

@@ -1,21 +1,17 @@
-// What the marks of a transition do to a record. Transitions that leave a row one after another often have the same marks, and then
-// their effect is worked out once.
+// What the marks of a transition do to a record, worked out for a row before its letters are read. Where all letters of a row have the same
+// marks, it is worked out once.
+use crate::cells::marks_of;
 use crate::keys::SPAN;
 use records::Record;
 ghost use mathlib.Core.Path.{_≡_};
-ghost use Prim.Native.Nat.{_<_};
-ghost use Rattle.rules.specs.Records.{asTheyStood, moved};
-ghost use Rattle.records.specs.Words.{isMarked, packed, places};
-ghost use Rattle.translate.specs.Keys.{span, wordIn};
+ghost use mathlib.Core.Bool.{true};
+ghost use Prim.Native.Nat.{_+_, _*_, _<_, _≤_};
+ghost use lib.ListN.{length};
+ghost use Rattle.rules.specs.Basics.{pick};
+ghost use Rattle.rules.specs.Limits.{maxStates, maxLetters};
+ghost use Rattle.translate.specs.Keys.{wordIn};
 ghost use Rattle.translate.specs.Cells.{prohibitedIn, requiredIn};
-ghost use Rattle.translate.specs.Effects.{IsEffect};
-
-// The marks, the word of the record after the move, and the priority by the record before it.
-pub(crate) struct Effect {
-    pub marks: u32,
-    pub word: u32,
-    pub priority: u8,
-}
+ghost use Rattle.translate.specs.Effects.{IsEffect, SameMarks, EffectsOn};
 
 // The pairs that marks prohibit.
 fn prohibited_in(marks: u32) -> u8
@@ -31,52 +27,68 @@ fn required_in(marks: u32) -> u8
     (marks / 256 % 256) as u8
 }
 
-// The word of a record after the pairs have moved. Where there are none, it stays.
-fn moved_word(word: u32, pairs: u8) -> u32
-    requires { ⌜ word < span ⌝ }
-    ensures { λ r. ⌜ r ≡ packed (moved asTheyStood (isMarked pairs) (places word)) ⌝ }
-{
-    if pairs == 0 {
-        return word;
-    }
-    let order = Record { word };
-    order.moved(pairs).word
-}
-
-// The effect of no marks on the record of a key.
-pub(crate) fn no_effect(key: u32) -> Effect
-    ensures { λ r. ⌜ IsEffect (wordIn key) r ⌝ }
-{
-    Effect {
-        marks: 0,
-        word: key % SPAN,
-        priority: 1,
-    }
-}
-
-// The effect of marks on the record of a key.
-fn effect_of(marks: u32, key: u32) -> Effect
-    ensures { λ r. ⌜ IsEffect (wordIn key) r × (r .marks ≡ marks) ⌝ }
+// The effect of marks on the record of a key: the word of the record after the move, and above it the priority by the record before it. It
+// has no branch: which pairs are marked is hard to foresee.
+fn effect_of(marks: u32, key: u32) -> u32
+    ensures { λ r. ⌜ IsEffect (wordIn key) marks r ⌝ }
 {
     let order = Record { word: key % SPAN };
     let prohibited = prohibited_in(marks);
     let required = required_in(marks);
-    let word = moved_word(order.word, prohibited);
+    let next = order.moved(prohibited);
     let priority = order.priority(prohibited, required);
-    Effect {
-        marks,
-        word,
-        priority,
-    }
+    SPAN * priority as u32 + next.word
 }
 
-// The same, where the effect of some marks on this record is known.
-pub(crate) fn effect_after(marks: u32, key: u32, last: Effect) -> Effect
-    requires { ⌜ IsEffect (wordIn key) last ⌝ }
-    ensures { λ r. ⌜ IsEffect (wordIn key) r × (r .marks ≡ marks) ⌝ }
+// All cells of a row have the same marks. Few cells are not compared: working their effects out takes no longer.
+fn same_marks(cells: &[u32], first: usize, m: usize) -> bool
+    requires { ⌜ (m ≤ maxLetters) × (0 < m) × (first < maxStates * maxLetters) × (first + m ≤ length (now cells)) ⌝ }
+    ensures { λ r. ⌜ (r ≡ true → SameMarks first m (now (cells .entry))) ⌝ }
 {
-    if marks == last.marks {
-        return last;
+    if m < 4 {
+        return false;
     }
-    effect_of(marks, key)
+    let marks = marks_of(cells[first]);
+    let mut same = true;
+    let mut a = 0;
+    while a < m {
+        same = same & (marks_of(cells[first + a]) == marks);
+        a += 1;
+    }
+    same
+}
+
+// How many effects a row has.
+fn effect_count(same: bool, m: usize) -> usize
+    ensures { λ r. ⌜ r ≡ pick same 1 m ⌝ }
+{
+    if same { 1 } else { m }
+}
+
+// Where the effect of a letter stands among those of its row.
+pub(crate) fn effect_place(same: bool, a: usize) -> usize
+    ensures { λ r. ⌜ r ≡ pick same 0 a ⌝ }
+{
+    if same { 0 } else { a }
+}
+
+// Writes the effects of the cells of a row on its record, and says whether there is one for all.
+pub(crate) fn write_effects(
+    cells: &[u32],
+    first: usize,
+    m: usize,
+    key: u32,
+    effects: &mut [u32],
+) -> bool
+    requires { ⌜ (m ≤ maxLetters) × (0 < m) × (first < maxStates * maxLetters) × (first + m ≤ length (now cells)) × (maxLetters ≤ length (now effects)) ⌝ }
+    ensures { λ r. ⌜ EffectsOn (wordIn key) first m (now (cells .entry)) r (now (effects .exit)) ⌝ }
+{
+    let same = same_marks(cells, first, m);
+    let count = effect_count(same, m);
+    let mut a = 0;
+    while a < count {
+        effects[a] = effect_of(marks_of(cells[first + a]), key);
+        a += 1;
+    }
+    same
 }

@@ -1,25 +1,25 @@
 // The exploration: rows are read by number, letters rising within each, and each row is filed as it is found. Every cell of the
 // lent arrays is written once, as it is read.
 use crate::cells::is_missing;
-use crate::cells::marks_of;
 use crate::cells::next_key;
-use crate::effects::Effect;
-use crate::effects::effect_after;
-use crate::effects::no_effect;
+use crate::effects::effect_place;
+use crate::effects::write_effects;
 use crate::filing::rows_after;
 use crate::filing::settle;
 use crate::keys::SPAN;
+use rules::limit::MAX_LETTERS;
 use rules::limit::MAX_ROWS;
 use rules::limit::NO_ROW;
 ghost use mathlib.Core.Path.{_≡_};
 ghost use Prim.Native.Nat.{_*_, _<_, _≤_};
-ghost use lib.ListN.{getD};
+ghost use lib.ListN.{length, getD};
+ghost use Rattle.rules.specs.Limits.{maxLetters};
 ghost use Rattle.rules.specs.Systems.{cell};
 ghost use Rattle.rules.specs.Tables.{tableOf};
 ghost use Rattle.tables.specs.Parts.{Taken};
 ghost use Rattle.translate.specs.Keys.{sourceIn, wordIn};
 ghost use Rattle.translate.specs.Cells.{cellMarks, cellWord, AllCells, Entries};
-ghost use Rattle.translate.specs.Effects.{IsEffect};
+ghost use Rattle.translate.specs.Effects.{IsEffect, EffectsOn};
 ghost use Rattle.translate.specs.Exploring.{lettersOf, fewRows, Known, LetterSays, RowSays, Room, Empty, ExploreSays};
 
 // The rows for which small arrays of our own are enough, and the slots of their index.
@@ -35,7 +35,7 @@ fn read_letter(
     table: &[u8],
     entries: &[u32],
     word: u32,
-    effect: Effect,
+    effect: u32,
     i: usize,
     a: usize,
     n: usize,
@@ -48,7 +48,7 @@ fn read_letter(
     targets: &mut [u16],
     priorities: &mut [u8],
 ) -> usize
-    requires { ⌜ Taken (now table) × Entries (tableOf (now table)) (now entries) × (i < n) × (a < lettersOf (now table)) × (word ≡ cellWord (tableOf (now table)) (sourceIn (getD (now keys) i 0)) a) × IsEffect (wordIn (getD (now keys) i 0)) effect × (effect .marks ≡ cellMarks word) × Known (now table) capacity n (cell (lettersOf (now table)) i a) (now keys) (now heads) (now links) (now sources) (now records) (now targets) (now priorities) ⌝ }
+    requires { ⌜ Taken (now table) × Entries (tableOf (now table)) (now entries) × (i < n) × (a < lettersOf (now table)) × (word ≡ cellWord (tableOf (now table)) (sourceIn (getD (now keys) i 0)) a) × IsEffect (wordIn (getD (now keys) i 0)) (cellMarks word) effect × Known (now table) capacity n (cell (lettersOf (now table)) i a) (now keys) (now heads) (now links) (now sources) (now records) (now targets) (now priorities) ⌝ }
     ensures { λ r. ⌜ LetterSays (now (table .entry)) capacity n i a (now (keys .entry)) (now (keys .exit)) (now (heads .exit)) (now (links .exit)) (now (sources .entry)) (now (sources .exit)) (now (records .entry)) (now (records .exit)) (now (targets .entry)) (now (targets .exit)) (now (priorities .entry)) (now (priorities .exit)) r ⌝ }
 {
     let m = table[1] as usize;
@@ -58,11 +58,61 @@ fn read_letter(
         priorities[p] = 0;
         return n;
     }
-    let next = next_key(word, effect.word, entries);
+    let next = next_key(word, effect % SPAN, entries);
     let number = settle(next, n, capacity, keys, heads, links, sources, records);
     targets[p] = number as u16;
-    priorities[p] = effect.priority;
+    priorities[p] = (effect / SPAN) as u8;
     rows_after(n, number)
+}
+
+// Reads row i by all letters, whose effects are given, as long as there is room, and gives how many rows are known then.
+fn read_letters(
+    table: &[u8],
+    cells: &[u32],
+    entries: &[u32],
+    first: usize,
+    same: bool,
+    effects: &[u32],
+    i: usize,
+    n: usize,
+    capacity: usize,
+    keys: &mut [u32],
+    heads: &mut [u16],
+    links: &mut [u16],
+    sources: &mut [u8],
+    records: &mut [u32],
+    targets: &mut [u16],
+    priorities: &mut [u8],
+) -> usize
+    requires { ⌜ Taken (now table) × AllCells (tableOf (now table)) (now cells) × Entries (tableOf (now table)) (now entries) × (i < n) × (first ≡ sourceIn (getD (now keys) i 0) * lettersOf (now table)) × (maxLetters ≤ length (now effects)) × EffectsOn (wordIn (getD (now keys) i 0)) first (lettersOf (now table)) (now cells) same (now effects) × Known (now table) capacity n (i * lettersOf (now table)) (now keys) (now heads) (now links) (now sources) (now records) (now targets) (now priorities) ⌝ }
+    ensures { λ r. ⌜ RowSays (now (table .entry)) capacity n i (now (keys .entry)) (now (keys .exit)) (now (heads .exit)) (now (links .exit)) (now (sources .entry)) (now (sources .exit)) (now (records .entry)) (now (records .exit)) (now (targets .entry)) (now (targets .exit)) (now (priorities .entry)) (now (priorities .exit)) r ⌝ }
+{
+    let m = table[1] as usize;
+    let mut known = n;
+    let mut a = 0;
+    while (a < m) & (known <= capacity) {
+        let word = cells[first + a];
+        let effect = effects[effect_place(same, a)];
+        known = read_letter(
+            table,
+            entries,
+            word,
+            effect,
+            i,
+            a,
+            known,
+            capacity,
+            keys,
+            heads,
+            links,
+            sources,
+            records,
+            targets,
+            priorities,
+        );
+        a += 1;
+    }
+    known
 }
 
 // Reads row i by all letters, as long as there is room, and gives how many rows are known then.
@@ -87,32 +137,26 @@ fn read_row(
     let m = table[1] as usize;
     let key = keys[i];
     let first = (key / SPAN) as usize * m;
-    let mut effect = no_effect(key);
-    let mut known = n;
-    let mut a = 0;
-    while (a < m) & (known <= capacity) {
-        let word = cells[first + a];
-        effect = effect_after(marks_of(word), key, effect);
-        known = read_letter(
-            table,
-            entries,
-            word,
-            effect,
-            i,
-            a,
-            known,
-            capacity,
-            keys,
-            heads,
-            links,
-            sources,
-            records,
-            targets,
-            priorities,
-        );
-        a += 1;
-    }
-    known
+    let mut effects = [0; MAX_LETTERS as usize];
+    let same = write_effects(cells, first, m, key, &mut effects);
+    read_letters(
+        table,
+        cells,
+        entries,
+        first,
+        same,
+        &effects,
+        i,
+        n,
+        capacity,
+        keys,
+        heads,
+        links,
+        sources,
+        records,
+        targets,
+        priorities,
+    )
 }
 
 // Reads all rows, from the start state's rising row on, and gives how many there are, or that there are more than the capacity. The

@@ -3,7 +3,6 @@ use mathlib.Core.Path.{_≡_}
 use mathlib.Core.Bool.{Bool}
 use native.Mathlib.Omega.{arith}
 use borrow.Author.Needs.{needs}
-use borrow.Author.Tests.{eq-eqb, ne-eqb}
 use mir.Val.{boolByte}
 use Rattle.rules.specs.Basics.{pick}
 use Rattle.rules.proofs.Bools.{by}
@@ -13,9 +12,6 @@ use Rattle.records.proofs.decided.Tie as tie
 one-or-none : (odd : Bool) → boolByte odd ≡ pick odd 1 0
 one-or-none odd = by odd (λ e. rw e) (λ e. rw e)
 
-returns : tie.Need-returns
-returns c = rw (eq-eqb _ _ (c .if1 .taken))
-
 mul-result : tie.Need-mul-result
 mul-result c = search needs
 
@@ -24,10 +20,13 @@ cast-result c = search needs
 
 add-result : tie.Need-add-result
 add-result c =
-    let odd = c .before .before .before .args .odd in by odd (λ e. rw e (omega (arith, c .before .before .before .pre))) (λ e. rw e (omega (arith, c .before .before .before .pre)))
+    let s = c .before .before in by (s .args .odd) (λ e. rw e (omega (arith, s .pre))) (λ e. rw e (omega (arith, s .pre)))
+
+returns : tie.Need-returns
+returns c = rw (c .before .if1 .taken, one-or-none (c .before .before .args .odd))
 
 returns-2 : tie.Need-returns-2
-returns-2 c = rw (ne-eqb _ _ (c .before .if1 .left), one-or-none (c .before .before .before .args .odd))
+returns-2 c = search needs
 
 pub decided-spec : {M : Type 1} → statement M
-decided-spec = tie.close (tie.spec returns mul-result cast-result add-result returns-2)
+decided-spec = tie.close (tie.spec mul-result cast-result add-result returns returns-2)

@@ -6,7 +6,7 @@ use Rattle.rules.specs.Texts.{each}
 use Rattle.rules.specs.Listings.{linesAt, lines}
 use Rattle.listing_text.specs.Writing.{Wrote}
 use Rattle.listing_text.proofs.Writing.{wrote-none, wrote-length, wrote-next, reach-next}
-use Rattle.listing_text.proofs.Bounds.{row-ends}
+use Rattle.rules.proofs.Arrays.{row-ends}
 use Rattle.listing_text.proofs.lines.put_rows.Statement.{statement}
 use Rattle.listing_text.proofs.lines.put_rows.Tie as tie
 

@@ -1,55 +1,76 @@
--- `records::Record::priority` meets its contract: the pair at the last marked position decides.
-use mathlib.Core.Path.{sym, _∙_}
-use mathlib.Core.Bool.{Bool}
-use mathlib.Core.List.{List}
-use Prim.Native.Nat.{ℕ, _≤_}
+-- `records::Record::priority` meets its contract. The invariant: what is still to be decided from position p on is what is to be decided.
+use mathlib.Core.Path.{_≡_, refl, sym, ap, _∙_}
+use mathlib.Core.List.{List, _∷_}
+use Prim.Native.Nat.{ℕ, _-_}
+use native.Mathlib.Numerals.{add-one}
 use native.Mathlib.Omega.{arith}
-use borrow.Author.Needs.{needs}
-use lib.Bits.{bitOr}
-use Rattle.rules.specs.Records.{Marks}
-use Rattle.records.specs.Words.{limit, isMarked, marksIn, places}
-use Rattle.records.proofs.Packing.{last-within, priority-decided, marked-either}
+use lib.ListN.{drop, drop-of-length-le}
+use Rattle.rules.specs.Records.{Marks, priorityFrom, priority}
+use Rattle.records.specs.Words.{marksIn, places}
+use Rattle.records.proofs.Packing.{marked-either, decided-turn}
 use Rattle.records.proofs.Record.priority.Statement.{statement}
 use Rattle.records.proofs.Record.priority.Tie as tie
 
--- the last marked position that was found
-module _ (c : tie.After-last-marked) where
-  abbrev start : tie.Start
-  start = c .before
+abbrev Inv-loop : tie.InvT-loop
+Inv-loop self prohibited required either best₀ p₀ best p =
+    priorityFrom p (marksIn prohibited required) (drop p (0 ∷ places (self .word))) best
+    ≡ priority (marksIn prohibited required) (places (self .word))
 
-  abbrev marks : Marks
-  marks = marksIn (start .args .prohibited) (start .args .required)
+abbrev μ-loop : tie.MeasureT-loop
+μ-loop self prohibited required either best₀ p₀ best p = 7 - p
 
-  abbrev record-places : List ℕ
-  record-places = places (start .args .self .word)
+loop-holds : tie.Need-loop-holds Inv-loop μ-loop
+loop-holds c = refl
 
-  abbrev in-either : ℕ → Bool
-  in-either = isMarked (bitOr (start .args .prohibited) (start .args .required))
+pair-at-requires : tie.Need-pair-at-requires Inv-loop μ-loop
+pair-at-requires c κs = tt
 
-  last-few : c .last-marked .result .0 ≤ limit
-  last-few = omega (arith, c .last-marked .ensures, last-within in-either record-places)
+is-in-requires : tie.Need-is-in-requires Inv-loop μ-loop
+is-in-requires c κs = tt
 
-last-marked-requires : tie.Need-last-marked-requires
-last-marked-requires c κs = search needs
+is-in-requires-2 : tie.Need-is-in-requires-2 Inv-loop μ-loop
+is-in-requires-2 c κs = tt
 
-pair-within-requires : tie.Need-pair-within-requires
-pair-within-requires c κs = last-few c
+decided-requires : tie.Need-decided-requires Inv-loop μ-loop
+decided-requires c κs = omega arith
 
-is-in-requires : tie.Need-is-in-requires
-is-in-requires c κs = search needs
+add-p : tie.Need-add-p Inv-loop μ-loop
+add-p c = omega arith
 
-decided-requires : tie.Need-decided-requires
-decided-requires c κs = last-few (c .before .before)
+loop-less : tie.Need-loop-less Inv-loop μ-loop
+loop-less c = omega arith
 
-returns : tie.Need-returns
+loop-again : tie.Need-loop-again Inv-loop μ-loop
+loop-again c =
+    let s = c .before .before .before .before .before .before .args in
+    let turn = c .before .before .before .before .before .loop in
+    let m : Marks = marksIn (s .prohibited) (s .required) in
+    let o : List ℕ = places (s .self .word) in
+    let pair = c .before .before .before .pair-at in
+    let i : ℕ = pair .result .0 in
+    let hit = c .before .is-in2 .ensures ∙ marked-either (s .prohibited) (s .required) i in
+    rw (add-one (turn .p))
+    (decided-turn o (turn .p) i (omega arith) (pair .ensures) m (c .before .before .is-in .result) (c .before .is-in2 .result) (c .before .before .is-in .ensures) hit (turn .best) (c .decided .result) (c .decided .ensures) ∙ turn .inv)
+
+returns : tie.Need-returns Inv-loop μ-loop
 returns c =
-    let l : tie.After-last-marked = c .before .before .before in
-    c .decided .ensures
-    ∙ rw
-    (c .before .is-in .ensures, c .before .before .pair-within .ensures, l .last-marked .ensures)
-    (sym (priority-decided (marks l) (in-either l) (marked-either (start l .args .prohibited) (start l .args .required)) (record-places l)))
+    let s = c .before .before .args in
+    let turn = c .before .loop in
+    sym (ap (λ (z : List ℕ). priorityFrom (turn .p) (marksIn (s .prohibited) (s .required)) z (turn .best)) (drop-of-length-le (0 ∷ places (s .self .word)) {i = turn .p} (omega arith)))
+    ∙ turn .inv
 
 pub priority-spec : {M : Type 1} → statement M
 priority-spec =
     tie.close
-    (tie.spec last-marked-requires pair-within-requires is-in-requires decided-requires returns)
+    (tie.spec
+    Inv-loop
+    μ-loop
+    loop-holds
+    pair-at-requires
+    is-in-requires
+    is-in-requires-2
+    decided-requires
+    add-p
+    loop-less
+    loop-again
+    returns)

@@ -1,36 +1,21 @@
--- `translate::explore::read_row` meets its contract. The invariant: the row is read by the letters below a, and `effect` is what some marks do to
--- its record.
-use mathlib.Core.Path.{_≡_, refl, _∙_, subst⁻¹}
+-- `translate::explore::read_row` meets its contract: the effects of the row's cells are written, and it is read by all letters.
+use mathlib.Core.Path.{refl}
 use mathlib.Core.List.{List}
-use Prim.Native.Nat.{ℕ, _-_, _*_, _<_, _≤_}
+use Prim.Native.Nat.{ℕ, _+_, _*_, _<_, _≤_}
 use native.Mathlib.Omega.{arith}
 use borrow.Author.Needs.{needs}
-use borrow.Author.Tests.{ltb-true, leb-true}
-use lib.Dec.{ltb, leb}
-use lib.ListN.{length, getD}
-use Rattle.rules.specs.Systems.{cell}
+use lib.ListN.{getD}
 use Rattle.rules.specs.Tables.{tableOf}
-use Rattle.rules.proofs.Bools.{and-parts}
+use Rattle.rules.proofs.Arrays.{row-ends}
 use Rattle.rules.proofs.Refusals.{TakenTable, taken-table}
 use Rattle.tables.proofs.Cells.{cell-within}
-use Rattle.translate.specs.Keys.{sourceIn, wordIn, IsKey}
-use Rattle.translate.specs.Cells.{cellWord}
-use Rattle.translate.specs.Effects.{IsEffect}
+use Rattle.translate.specs.Keys.{sourceIn, IsKey}
 use Rattle.translate.specs.Exploring.{lettersOf}
-use Rattle.translate.proofs.Rounds.{RowPart, row-begun, row-next, row-done}
 use Rattle.translate.proofs.explore.read_row.Statement.{statement}
 use Rattle.translate.proofs.explore.read_row.Tie as tie
 
-abbrev Inv-loop : tie.InvT-loop
-Inv-loop table cells entries i n capacity keys₀ heads₀ links₀ sources₀ records₀ targets₀ priorities₀ m key first effect₀ known₀ a₀ keys heads links sources records targets priorities effect known a =
-    RowPart table capacity n i a keys₀ keys heads links sources₀ sources records₀ records targets₀ targets priorities₀ priorities known
-    × (length keys ≡ length keys₀) × (length heads ≡ length heads₀) × (length links ≡ length links₀) × IsEffect (wordIn key) effect
-
-abbrev μ-loop : tie.MeasureT-loop
-μ-loop table cells entries i n capacity keys₀ heads₀ links₀ sources₀ records₀ targets₀ priorities₀ m key first effect₀ known₀ a₀ keys heads links sources records targets priorities effect known a = m - a
-
 -- what holds at the entry
-module _ (c : tie.Start Inv-loop μ-loop) where
+module _ (c : tie.Start) where
   abbrev bytes : List ℕ
   bytes = c .args .table .now
 
@@ -43,138 +28,86 @@ module _ (c : tie.Start Inv-loop μ-loop) where
   code : IsKey (tableOf bytes) v
   code = c .pre .4 .coded (c .args .i) (c .pre .3)
 
-  in-cells : (a : ℕ) → a < lettersOf bytes → cell (lettersOf bytes) (sourceIn v) a < tableOf bytes .states * lettersOf bytes
-  in-cells a l = cell-within (tableOf bytes .states) (lettersOf bytes) (sourceIn v) a (code .is-row .state) l
-
   first-cell : sourceIn v * lettersOf bytes < tableOf bytes .states * lettersOf bytes
-  first-cell = omega (arith, in-cells 0 (table .sizes .some-letters))
+  first-cell =
+      omega (arith, cell-within (tableOf bytes .states) (lettersOf bytes) (sourceIn v) 0 (code .is-row .state) (table .sizes .some-letters))
 
--- a letter is left, and there is room
-module _ (c : tie.In-loop Inv-loop μ-loop) where
-  abbrev s : tie.Start Inv-loop μ-loop
-  s = c .before .before .before .before .before .before .before .before .before .before .before .before .before .before .before
+  row-cells : sourceIn v * lettersOf bytes + lettersOf bytes ≤ tableOf bytes .states * lettersOf bytes
+  row-cells = row-ends (tableOf bytes .states) (lettersOf bytes) (sourceIn v) (code .is-row .state)
 
-  tests : (c .before .loop .a < lettersOf (bytes s)) × (c .before .loop .known ≤ s .args .capacity)
-  tests =
-      let r = and-parts (ltb (c .before .loop .a) (lettersOf (bytes s))) (leb (c .before .loop .known) (s .args .capacity)) (c .loop-test .taken) in
-      (ltb-true _ _ (r .0), leb-true _ _ (r .1))
-
-  here : cell (lettersOf (bytes s)) (sourceIn (v s)) (c .before .loop .a) < tableOf (bytes s) .states * lettersOf (bytes s)
-  here = in-cells s (c .before .loop .a) (tests .0)
-
-shared-slice-read-m : tie.Need-shared-slice-read-m Inv-loop μ-loop
+shared-slice-read-m : tie.Need-shared-slice-read-m
 shared-slice-read-m c = omega (arith, table (c .before .before .before .before .before .before .before .before .before .before .before))
 
-cast-m : tie.Need-cast-m Inv-loop μ-loop
+cast-m : tie.Need-cast-m
 cast-m c = omega (arith, table (c .before .before .before .before .before .before .before .before .before .before .before))
 
-mul-key : tie.Need-mul-key Inv-loop μ-loop
+mul-key : tie.Need-mul-key
 mul-key c = let s = c .before .before .before .before .before .before .before .before .before .before .before in omega (arith, s .pre .4 .filed .few, s .pre .4 .filed .most)
 
-slice-read-key : tie.Need-slice-read-key Inv-loop μ-loop
+slice-read-key : tie.Need-slice-read-key
 slice-read-key c = let s = c .before .before .before .before .before .before .before .before .before .before .before .before in omega (arith, s .pre .4 .filed .few, s .pre .4 .filed .key-room)
 
-cast-first : tie.Need-cast-first Inv-loop μ-loop
+cast-first : tie.Need-cast-first
 cast-first c = let s = c .before .before .before .before .before .before .before .before .before .before .before .before in omega (arith, table s, code s .is-row .state)
 
-mul-first : tie.Need-mul-first Inv-loop μ-loop
+mul-first : tie.Need-mul-first
 mul-first c = let s = c .before .before .before .before .before .before .before .before .before .before .before .before in omega (arith, table s, first-cell s)
 
-no-effect-requires : tie.Need-no-effect-requires Inv-loop μ-loop
-no-effect-requires c κs = search needs
+slice-aggregate-write-effects : tie.Need-slice-aggregate-write-effects
+slice-aggregate-write-effects c = search needs
 
-loop-holds : tie.Need-loop-holds Inv-loop μ-loop
-loop-holds c =
-    (row-begun _ _ _ _ _ _ _ _ _ _ _ (c .before .before .before .before .before .before .before .before .before .before .before .before .before .pre .4), refl, refl, refl, c .no-effect .ensures)
+write-effects-requires : tie.Need-write-effects-requires
+write-effects-requires c κs =
+    let s = c .before .before .before .before .before .before .before .before .before .before .before .before .before in
+    (table s .sizes .most-letters, table s .sizes .some-letters, omega (arith, table s, first-cell s), omega (arith, row-cells s, s .pre .1 .enough), omega arith)
 
-add-word : tie.Need-add-word Inv-loop μ-loop
-add-word c = omega (arith, table (s c), here c)
+slice-aggregate-read-letters : tie.Need-slice-aggregate-read-letters
+slice-aggregate-read-letters c = search needs
 
-mul-word : tie.Need-mul-word Inv-loop μ-loop
-mul-word c = omega (arith, table (s c), here c)
+read-letters-requires : tie.Need-read-letters-requires
+read-letters-requires c κs =
+    let s = c .before .before .before .before .before .before .before .before .before .before .before .before .before .before .before .before .before .before .before .before .before .before .before in
+    let w : tie.After-write-effects = c .before .before .before .before .before .before .before .before .before in
+    (s .pre .0, s .pre .1, s .pre .2, s .pre .3, refl, omega (arith, w .write-effects .kept .1 .1 .1 .1 .0), w .write-effects .ensures, s .pre .4)
 
-shared-slice-read-word : tie.Need-shared-slice-read-word Inv-loop μ-loop
-shared-slice-read-word c = omega (arith, here (c .before), s (c .before) .pre .1 .enough)
+same-length : tie.Need-same-length
+same-length c = search needs
 
-marks-of-requires : tie.Need-marks-of-requires Inv-loop μ-loop
-marks-of-requires c κs = search needs
+same-length-2 : tie.Need-same-length-2
+same-length-2 c = search needs
 
-effect-after-requires : tie.Need-effect-after-requires Inv-loop μ-loop
-effect-after-requires c κs = c .before .before .before .loop .inv .4
+same-length-3 : tie.Need-same-length-3
+same-length-3 c = search needs
 
-read-letter-requires : tie.Need-read-letter-requires Inv-loop μ-loop
-read-letter-requires c κs =
-    let e : tie.After-effect-after Inv-loop μ-loop = c .before .before .before .before .before .before .before in
-    let turn : tie.In-loop Inv-loop μ-loop = c .before .before .before .before .before .before .before .before .before .before in
-    let t = s turn in
-    let f = turn .before .loop .inv .0 in
-    let same = f .front (tests turn .1) in
-    (t .pre .0, t .pre .2, omega (arith, t .pre .3, f .longer), tests turn .0, subst⁻¹ (λ (x : ℕ). getD (t .args .cells .now) (cell (lettersOf (bytes t)) (sourceIn (v t)) (turn .before .loop .a)) 0 ≡ cellWord (tableOf (bytes t)) (sourceIn x) (turn .before .loop .a)) same (t .pre .1 .entry (sourceIn (v t)) (turn .before .loop .a) (tests turn .0) (here turn)), subst⁻¹ (λ (x : ℕ). IsEffect (wordIn x) (e .effect-after .result)) same (e .effect-after .ensures .0), e .effect-after .ensures .1 ∙ e .before .marks-of .ensures, f .known (tests turn .1))
+same-length-4 : tie.Need-same-length-4
+same-length-4 c = search needs
 
-add-a : tie.Need-add-a Inv-loop μ-loop
-add-a c =
-    let turn : tie.In-loop Inv-loop μ-loop = c .before .before .before .before .before .before .before .before .before .before .before .before .before .before .before .before .before .before .before .before .before .before .before .before .before in omega (arith, tests turn .0, table (s turn))
+same-length-5 : tie.Need-same-length-5
+same-length-5 c = search needs
 
-loop-less : tie.Need-loop-less Inv-loop μ-loop
-loop-less c =
-    let turn : tie.In-loop Inv-loop μ-loop = c .before .before .before .before .before .before .before .before .before .before .before .before .before .before .before .before .before .before .before .before .before .before .before .before .before in omega (arith, tests turn .0)
+same-length-6 : tie.Need-same-length-6
+same-length-6 c = search needs
 
-loop-again : tie.Need-loop-again Inv-loop μ-loop
-loop-again c =
-    let turn : tie.In-loop Inv-loop μ-loop = c .before .before .before .before .before .before .before .before .before .before .before .before .before .before .before .before .before .before .before .before .before .before .before .before .before in
-    let call : tie.After-read-letter Inv-loop μ-loop = c .before .before .before .before .before .before .before .before .before .before .before .before .before .before in
-    let e : tie.After-effect-after Inv-loop μ-loop = c .before .before .before .before .before .before .before .before .before .before .before .before .before .before .before .before .before .before .before .before .before .before in
-    let f = turn .before .loop .inv in
-    (row-next _ _ _ _ _ _ _ _ _ _ _ _ _ _ _ _ _ _ _ _ _ _ _ _ _ _ (s turn .pre .3) (tests turn .0) (tests turn .1) (f .0) (call .read-letter .ensures), call .read-letter .kept .1 .1 .1 .1 .1 .1 .1 .1 .0 ∙ f .1, call .read-letter .kept .1 .1 .1 .1 .1 .1 .1 .1 .1 .0 ∙ f .2, call .read-letter .kept .1 .1 .1 .1 .1 .1 .1 .1 .1 .1 .0 ∙ f .3, e .effect-after .ensures .0)
+same-length-7 : tie.Need-same-length-7
+same-length-7 c = search needs
 
-same-length : tie.Need-same-length Inv-loop μ-loop
-same-length c = c .before .loop .inv .1
-
-same-length-2 : tie.Need-same-length-2 Inv-loop μ-loop
-same-length-2 c = c .before .loop .inv .2
-
-same-length-3 : tie.Need-same-length-3 Inv-loop μ-loop
-same-length-3 c = c .before .loop .inv .3
-
-same-length-4 : tie.Need-same-length-4 Inv-loop μ-loop
-same-length-4 c = c .before .loop .inv .0 .state-rest .size
-
-same-length-5 : tie.Need-same-length-5 Inv-loop μ-loop
-same-length-5 c = c .before .loop .inv .0 .number-rest .size
-
-same-length-6 : tie.Need-same-length-6 Inv-loop μ-loop
-same-length-6 c = c .before .loop .inv .0 .target-rest .size
-
-same-length-7 : tie.Need-same-length-7 Inv-loop μ-loop
-same-length-7 c = c .before .loop .inv .0 .priority-rest .size
-
-returns : tie.Need-returns Inv-loop μ-loop
-returns c =
-    row-done _ _ _ _ _ _ _ _ _ _ _ _ _ _ _ _ _ _ (c .loop-test .left) (c .before .loop .inv .0)
+returns : tie.Need-returns
+returns c = c .before .before .before .before .before .before .before .before .before .before .before .before .before .before .read-letters .ensures
 
 pub read-row-spec : {M : Type 1} → statement M
 read-row-spec =
     tie.close
     (tie.spec
-    Inv-loop
-    μ-loop
     shared-slice-read-m
     cast-m
     mul-key
     slice-read-key
     cast-first
     mul-first
-    no-effect-requires
-    loop-holds
-    add-word
-    mul-word
-    shared-slice-read-word
-    marks-of-requires
-    effect-after-requires
-    read-letter-requires
-    add-a
-    loop-less
-    loop-again
+    slice-aggregate-write-effects
+    write-effects-requires
+    slice-aggregate-read-letters
+    read-letters-requires
     same-length
     same-length-2
     same-length-3
