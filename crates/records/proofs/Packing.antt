@@ -2,7 +2,9 @@
 --     AllPairs o               every element of o is the number of a pair that a place can hold
 --     AllBelow o               every element of o is a number that a place can hold
 --     packed-below             the word of at most n elements is below base ^ n
---     kept-below, width-below  of the elements behind a position: the word of those that pass a test, and the unit of the place behind them
+--     kept-below               the word of those elements behind a position that pass a test
+--     inRear b v o             the word v after those elements of o that pass have gone into its last place, one after the other
+--     rear-word, rear-below    what that word is, from nothing, and that it stays small
 --     packed-append            the word of two lists, one behind the other
 --     moved-joined, moved-small     the word after a move, from the words of its two parts, and its bound
 --     places-length, places-at, places-below     how many places are read, what stands there, and that it is below base
@@ -11,27 +13,26 @@
 --     rising-at, rising-below  the numbers from 1 on
 --     places-packed, pairs-packed, packed-small     the word of an ordering holds it, and nothing else
 --     moved-packed, priority-packed     a move and a priority are the same for the places of that word
---     marked-shifted           a pair is in a set, as a shift finds it
+--     marked-masked            a pair is in a set, as a word with its bit alone finds it
 --     priority-unmarked        the priority where nothing is marked
---     marked-either            a pair of two sets together
---     kept-turn, width-turn, decided-turn, digit-turn     a turn at one position
+--     kept-turn, rear-turn, decided-turn, digit-turn     a turn at one position
 --     digit-below              a number with one digit more stays below the next power of ten
 use mathlib.Core.Path.{_≡_, refl, sym, ap, _∙_}
 use mathlib.Core.Bool.{Bool, true, false, not, _&&_, _||_, false≢true}
 use mathlib.Core.List.{List, [], _∷_, _++_, append-nil, append-assoc}
 use Prim.Native.Nat.{ℕ, zero, suc, _+_, _-_, _*_, _/_, _%_, _^_, _≤_, _<_}
-use native.Mathlib.Nat.{div-one, div-eq-of-lt, mod-eq-of-lt, mul-assoc, pow-suc, pow-succ', pow-le-pow-right, one-le-pow, one-mul}
+use native.Mathlib.Nat.{div-one, zero-div, div-eq-of-lt, div-div-eq-div-mul, add-mul-div-left, mod-eq-of-lt, mul-zero, mul-add, mul-assoc, pow-suc, pow-succ', one-le-pow, one-mul}
 use native.Mathlib.Omega.{arith}
-use lib.Bits.{bitOr}
-use lib.Dec.{eqb, ltb, lit<}
-use lib.ListN.{length, getD, take, drop, replicate, length-drop, take-append-drop, List·getD-eq-default}
-use lib.Pow.{shr-shr, pow-mono}
+use lib.Bits.{bitAnd}
+use lib.Dec.{eqb, ltb}
+use lib.ListN.{length, getD, take, drop, replicate, length-append, length-drop, take-append-drop, List·getD-eq-default}
+use lib.Pow.{pow-add, shr-shr, pow-mono}
 use lib.Seq.{drop-cons}
 use borrow.Author.Tests.{eqb-true, eqb-false, eq-eqb, ne-eqb, ltb-true, ltb-false}
 use Rattle.rules.specs.Basics.{pick, any, isIn, keep, tabulate}
 use Rattle.rules.specs.Records.{Marks, asTheyStood, moved, priorityWith, priorityFrom, priority, decimalFrom}
 use Rattle.rules.proofs.Bools.{by, clash, or-cases, or-left, or-right, or-none}
-use Rattle.rules.proofs.Bits.{bit-none, bit-or}
+use Rattle.rules.proofs.Bits.{bit-none, bit-masked, one-shifted}
 use Rattle.rules.proofs.Sets.{any-append, any-find}
 use Rattle.rules.proofs.Arrays.{tabulate-at}
 use Rattle.rules.proofs.Appearance.{kept-length, keep-append, keep-free, keep-hold, others-all, marked, priority-none, moved-length}
@@ -70,16 +71,10 @@ packed-below (i ∷ o) (suc n) all l =
     rw (pow-suc 8 n)
     (omega (arith, all i (first-in i o), packed-below o n (λ j h. all j (or-right (eqb j i) (isIn j o) h)) (omega arith)))
 
--- behind position p at most n pairs stand: the word of those that pass, and the unit of the place behind them
-module _ (b : ℕ → Bool) (o : List ℕ) (p n : ℕ) (few : length o ≤ p + n) where
-  kept-few : length (keep b (drop p o)) ≤ n
-  kept-few = omega (arith, kept-length b (drop p o), length-drop p o)
-
-  pub kept-below : AllBelow o → packed (keep b (drop p o)) < base ^ n
-  kept-below all = packed-below (keep b (drop p o)) n (λ i h. drop-below p o all i (kept-in b i (drop p o) h)) kept-few
-
-  pub width-below : base ^ length (keep b (drop p o)) ≤ base ^ n
-  width-below = pow-le-pow-right (lit< tt) kept-few
+-- behind position p at most n pairs stand
+pub kept-below : (b : ℕ → Bool) (o : List ℕ) (p n : ℕ) → length o ≤ p + n → AllBelow o → packed (keep b (drop p o)) < base ^ n
+kept-below b o p n few all =
+    packed-below (keep b (drop p o)) n (λ i h. drop-below p o all i (kept-in b i (drop p o) h)) (omega (arith, kept-length b (drop p o), length-drop p o))
 
 pub packed-append : (o o′ : List ℕ) → packed (o ++ o′) ≡ packed o + base ^ length o * packed o′
 packed-append [] o′ = omega (arith, one-mul (packed o′))
@@ -87,13 +82,59 @@ packed-append (i ∷ o) o′ =
     rw (pow-succ' 8 (length o), mul-assoc 8 (8 ^ length o) (packed o′)) (omega (arith, packed-append o o′))
 
 module _ (b : ℕ → Bool) (o : List ℕ) where
-  pub moved-joined : (front others unit : ℕ) → front ≡ packed (keep b o) → others ≡ packed (keep (λ i. not (b i)) o)
-      → unit ≡ base ^ length (keep b o) → front + unit * others ≡ packed (moved asTheyStood b o)
-  moved-joined front others unit e f g = rw (e, f, g) (sym (packed-append (keep b o) (keep (λ i. not (b i)) o)))
+  pub moved-joined : (front rear : ℕ) → front ≡ packed (keep b o)
+      → rear ≡ base ^ length (keep b o) * packed (keep (λ i. not (b i)) o) → front + rear ≡ packed (moved asTheyStood b o)
+  moved-joined front rear e f = rw (e, f) (sym (packed-append (keep b o) (keep (λ i. not (b i)) o)))
 
   pub moved-small : (n : ℕ) → AllBelow o → length o ≤ n → packed (moved asTheyStood b o) < base ^ n
   moved-small n all l =
       packed-below (moved asTheyStood b o) n (moved-below b o all) (omega (arith, moved-length asTheyStood stood-rearranges b o))
+
+-- ---- elements that go into the last of six places
+abbrev pub inRear : (ℕ → Bool) → ℕ → List ℕ → ℕ
+inRear b v [] = v
+inRear b v (i ∷ o) = inRear b (pick (b i) (v / base + 32768 * i) v) o
+
+module _ (b : ℕ → Bool) where
+  rear-from : (o : List ℕ) (v e : ℕ) → length (keep b o) + e ≡ 6
+      → inRear b v o ≡ v / base ^ length (keep b o) + base ^ e * packed (keep b o)
+  rear-from [] v e l = rw (div-one v, mul-zero (8 ^ e)) (omega arith)
+  rear-from (i ∷ o) v e l =
+      by
+      (b i)
+      (λ t. let h : suc (length (keep b o)) + e ≡ 6 = rw t at l in rw t (goes h (rear-from o (v / 8 + 32768 * i) (suc e) (omega arith))))
+      (λ t. rw t (rear-from o v e (rw t at l)))
+    where
+      k : ℕ
+      k = length (keep b o)
+
+      w : ℕ
+      w = packed (keep b o)
+
+      -- the unit of the last place, by the places before it
+      last : suc k + e ≡ 6 → 32768 ≡ 8 ^ k * 8 ^ e
+      last h = let five : 5 ≡ k + e = omega arith in ap (λ (x : ℕ). 8 ^ x) five ∙ pow-add 8 k e
+
+      nearer : suc k + e ≡ 6 → (v / 8 + 32768 * i) / 8 ^ k ≡ v / 8 ^ suc k + 8 ^ e * i
+      nearer h =
+          ap (λ (x : ℕ). (v / 8 + x * i) / 8 ^ k) (last h)
+          ∙ rw (mul-assoc (8 ^ k) (8 ^ e) i) (add-mul-div-left (v / 8) (8 ^ e * i) (one-le-pow k 8 (omega arith)))
+          ∙ ap (λ (x : ℕ). x + 8 ^ e * i) (div-div-eq-div-mul v 8 (8 ^ k) ∙ ap (λ (x : ℕ). v / x) (sym (pow-succ' 8 k)))
+
+      goes : suc k + e ≡ 6 → inRear b (v / 8 + 32768 * i) o ≡ (v / 8 + 32768 * i) / 8 ^ k + 8 ^ suc e * w
+          → inRear b (v / 8 + 32768 * i) o ≡ v / 8 ^ suc k + 8 ^ e * (i + 8 * w)
+      goes h r = r ∙ rw (nearer h, pow-suc 8 e, mul-assoc (8 ^ e) 8 w, mul-add (8 ^ e) i (8 * w)) (omega arith)
+
+pub rear-word : (b : ℕ → Bool) (o : List ℕ) → length o ≡ 6
+    → inRear (λ i. not (b i)) 0 o ≡ base ^ length (keep b o) * packed (keep (λ i. not (b i)) o)
+rear-word b o six =
+    let nots : List ℕ = keep (λ i. not (b i)) o in
+    let all = moved-length asTheyStood stood-rearranges b o ∙ six in
+    rear-from (λ i. not (b i)) o 0 (length (keep b o)) (omega (arith, length-append (keep b o) nots, all))
+    ∙ rw (zero-div (8 ^ length nots)) (omega arith)
+
+pub rear-below : (goes : Bool) (v i w : ℕ) → v < 262144 → i < base → w ≡ pick goes (v / base + 32768 * i) v → w < 262144
+rear-below goes v i w l m e = by goes (λ t. omega (arith, rw t at e)) (λ t. omega (arith, rw t at e))
 
 packed-padded : (o : List ℕ) (k : ℕ) → packed (o ++ replicate k 0) ≡ packed o
 packed-padded [] zero = refl
@@ -225,7 +266,7 @@ never-any b [] h = refl
 never-any b (i ∷ o) h = rw (h i, never-any b o h)
 
 -- the bits of a byte, moved up by one so that pair 0 has one too
-pub marked-shifted : (set i : ℕ) → set < 256 → ltb i 16 && eqb (2 * set / 2 ^ (i % 16) % 2) 1 ≡ isMarked set i
+marked-shifted : (set i : ℕ) → set < 256 → ltb i 16 && eqb (2 * set / 2 ^ (i % 16) % 2) 1 ≡ isMarked set i
 marked-shifted set zero l = let e : 2 * set / 1 % 2 ≡ 0 = rw (div-one (2 * set)) (omega arith) in rw e
 marked-shifted set (suc j) l =
     by
@@ -243,8 +284,9 @@ marked-shifted set (suc j) l =
     shifted =
         ap (λ (s : ℕ). 2 * set / 2 ^ s) (omega arith) ∙ sym (shr-shr (2 * set) 1 j) ∙ ap (λ (x : ℕ). x / 2 ^ j) (omega arith)
 
-pub marked-either : (p r i : ℕ) → isMarked (bitOr p r) i ≡ isMarked p i || isMarked r i
-marked-either p r i = by (isPair i) (λ e. rw e (bit-or (i - 1) p r)) (λ e. rw e)
+pub marked-masked : (set i : ℕ) → set < 256
+    → ltb i 16 && not (eqb (bitAnd (2 * set) (1 * 2 ^ (i % 16) % 2 ^ 32)) 0) ≡ isMarked set i
+marked-masked set i l = rw (one-shifted 32 (i % 16) (omega arith), bit-masked (i % 16) (2 * set)) (marked-shifted set i l)
 
 -- ---- priorities
 pub priority-unmarked : (o : List ℕ) → priority (marksIn 0 0) o ≡ 1
@@ -264,20 +306,14 @@ module _ (o : List ℕ) (p i : ℕ) (within : p ≤ length o) (here : i ≡ getD
       pub kept-turn : v ≡ packed (keep b (drop p o)) → w ≡ pick goes (i + base * v) v → w ≡ packed (keep b (drop k o))
       kept-turn e f = f ∙ rw (from-before, e, tested) (by (b i) (λ t. rw t) (λ t. rw t))
 
-      pub width-turn : v ≡ base ^ length (keep b (drop p o)) → w ≡ pick goes (base * v) v → w ≡ base ^ length (keep b (drop k o))
-      width-turn e f =
-          f ∙ rw (from-before, e, tested) (by (b i) (λ t. rw t (sym (pow-succ' 8 (length (keep b (drop p o)))))) (λ t. rw t))
-
   -- forwards: what is still to be found behind p, and from p on
-  pub decided-turn : (m : Marks) (odd hit : Bool) → odd ≡ m .prohibited i → hit ≡ m .prohibited i || m .required i
-      → (v w : ℕ) → w ≡ pick hit (2 * p + pick odd 1 0) v → priorityFrom (suc p) m (drop p o) w ≡ priorityFrom p m (drop p (0 ∷ o)) v
-  decided-turn m odd hit o-is h-is v w f =
-      let decided : w ≡ priorityWith p m i v = f ∙ rw (o-is, h-is) turned in
-      ap (priorityFrom (suc p) m (drop p o)) decided ∙ rw from-here
-    where
-      turned : pick (m .prohibited i || m .required i) (2 * p + pick (m .prohibited i) 1 0) v ≡ priorityWith p m i v
-      turned =
-          by (m .prohibited i) (λ e. rw e (omega arith)) (λ e. by (m .required i) (λ g. rw (e, g) (omega arith)) (λ g. rw (e, g)))
+  pub decided-turn : (m : Marks) (odd even : Bool) → odd ≡ m .prohibited i → even ≡ m .required i
+      → (v w : ℕ) → w ≡ pick odd (suc (2 * p)) (pick even (2 * p) v) → priorityFrom (suc p) m (drop p o) w ≡ priorityFrom p m (drop p (0 ∷ o)) v
+  decided-turn m odd even o-is e-is v w f = let decided : w ≡ priorityWith p m i v = f ∙ rw (o-is, e-is) in ap (priorityFrom (suc p) m (drop p o)) decided ∙ rw from-here
+
+  pub rear-turn : (b : ℕ → Bool) (goes : Bool) → goes ≡ b i → (v w : ℕ) → w ≡ pick goes (v / base + 32768 * i) v
+      → inRear b w (drop p o) ≡ inRear b v (drop p (0 ∷ o))
+  rear-turn b goes tested v w f = rw (from-here, f, tested)
 
   pub digit-turn : (v w : ℕ) → w ≡ pick (isPair i) (10 * v + i) v
       → decimalFrom w (keep isPair (drop p o)) ≡ decimalFrom v (keep isPair (drop p (0 ∷ o)))

@@ -2,9 +2,10 @@
 // It rests on `rules`. Every method takes any record and any byte and states its whole result, by the definitions of the rules
 // over the record's places.
 ghost use mathlib.Core.Path.{_≡_};
-ghost use Prim.Native.Nat.{_≤_, _<_, _*_, _+_};
-ghost use lib.ListN.{getD};
+ghost use mathlib.Core.Bool.{not};
 ghost use mathlib.Core.List.{_∷_};
+ghost use Prim.Native.Nat.{suc, _≤_, _<_, _*_, _+_, _/_, _^_};
+ghost use lib.ListN.{length, getD};
 ghost use Rattle.rules.specs.Basics.{pick, keep, tabulate};
 ghost use Rattle.rules.specs.Records.{asTheyStood, moved, priority, decimal};
 ghost use Rattle.records.specs.Words.{limit, base, isPair, isMarked, marksIn, packed, places, pairsIn};
@@ -26,9 +27,9 @@ impl PairNumber {
         ensures { λ r. ⌜ r ≡ isMarked pairs (self .0) ⌝ }
     {
         let i = self.0;
-        let shift = i % 16;
-        let set = 2 * (pairs as u16);
-        (i < 16) & ((set >> shift) % 2 == 1)
+        let bit = 1u32 << (i % 16);
+        let set = 2 * (pairs as u32);
+        (i < 16) & (set & bit != 0)
     }
 }
 
@@ -66,14 +67,13 @@ impl Record {
     pub fn priority(self, prohibited: u8, required: u8) -> u8
         ensures { λ r. ⌜ r ≡ priority (marksIn prohibited required) (places (self .word)) ⌝ }
     {
-        let either = prohibited | required;
         let mut best = 1;
         let mut p = 1;
         while p <= Record::LIMIT {
             let pair = self.pair_at(Position(p));
             let odd = pair.is_in(prohibited);
-            let hit = pair.is_in(either);
-            best = decided(best, Position(p), odd, hit);
+            let even = pair.is_in(required);
+            best = decided(best, Position(p), odd, even);
             p += 1;
         }
         best
@@ -83,21 +83,37 @@ impl Record {
     pub fn moved(self, pairs: u8) -> Self
         ensures { λ r. ⌜ r .word ≡ packed (moved asTheyStood (isMarked pairs) (places (self .word))) ⌝ }
     {
-        let mut front = 0;
-        let mut others = 0;
-        let mut unit = 1;
+        let front = self.front(pairs);
+        let rear = self.rear(pairs);
+        Record { word: front + rear }
+    }
+
+    // The word of the pairs of the set, from the first place on.
+    fn front(self, pairs: u8) -> u32
+        ensures { λ r. ⌜ r ≡ packed (keep (isMarked pairs) (places (self .word))) ⌝ }
+    {
+        let mut word = 0;
         let mut p = Record::LIMIT;
         while 0 < p {
             let pair = self.pair_at(Position(p));
-            let goes = pair.is_in(pairs);
-            front = with_pair(front, pair, goes);
-            others = with_pair(others, pair, !goes);
-            unit = widened(unit, goes);
+            word = with_pair(word, pair, pair.is_in(pairs));
             p -= 1;
         }
-        Record {
-            word: front + unit * others,
+        word
+    }
+
+    // The word of the places that are not of the set, up to the last place.
+    fn rear(self, pairs: u8) -> u32
+        ensures { λ r. ⌜ r ≡ base ^ length (keep (isMarked pairs) (places (self .word))) * packed (keep (λ i. not (isMarked pairs i)) (places (self .word))) ⌝ }
+    {
+        let mut word = 0;
+        let mut p = 1;
+        while p <= Record::LIMIT {
+            let pair = self.pair_at(Position(p));
+            word = with_last(word, pair, !pair.is_in(pairs));
+            p += 1;
         }
+        word
     }
 
     // The pair numbers read as one decimal number; 0 where there is none.
@@ -114,12 +130,15 @@ impl Record {
     }
 }
 
-// The priority that a pair at a position makes of the one found before it, where the pair is hit.
-fn decided(best: u8, at: Position, odd: bool, hit: bool) -> u8
+// The priority that a pair at a position makes of the one found before it.
+fn decided(best: u8, at: Position, odd: bool, even: bool) -> u8
     requires { ⌜ at .0 ≤ limit ⌝ }
-    ensures { λ r. ⌜ r ≡ pick hit (2 * at .0 + pick odd 1 0) best ⌝ }
+    ensures { λ r. ⌜ r ≡ pick odd (suc (2 * at .0)) (pick even (2 * at .0) best) ⌝ }
 {
-    if hit { 2 * at.0 + odd as u8 } else { best }
+    if odd {
+        return 2 * at.0 + 1;
+    }
+    if even { 2 * at.0 } else { best }
 }
 
 // The word with the pair in front, where it goes there.
@@ -130,12 +149,16 @@ fn with_pair(word: u32, pair: PairNumber, goes: bool) -> u32
     if goes { pair.0 as u32 + 8 * word } else { word }
 }
 
-// The unit of the place behind, where one place more is taken. It has no branch: which pairs go is hard to foresee.
-fn widened(unit: u32, goes: bool) -> u32
-    requires { ⌜ unit ≤ 32768 ⌝ }
-    ensures { λ r. ⌜ r ≡ pick goes (base * unit) unit ⌝ }
+// The word with the pair in the last place, the others one place nearer to the front, where it goes there.
+fn with_last(word: u32, pair: PairNumber, goes: bool) -> u32
+    requires { ⌜ (word < 262144) × (pair .0 < base) ⌝ }
+    ensures { λ r. ⌜ r ≡ pick goes (word / base + 32768 * pair .0) word ⌝ }
 {
-    unit << (3 * goes as u32)
+    if goes {
+        word / 8 + 32768 * pair.0 as u32
+    } else {
+        word
+    }
 }
 
 // The number with one digit more, where the pair is one.

@@ -1,22 +1,23 @@
 -- Sets of numbers as bits of words.
 --     bit-or, bit-and    the bits of two words together, and those that both have
 --     bit-one            the bits of a word with one bit
+--     bit-masked         a bit, as a word with that bit alone finds it
 --     bit-none, bit-over      no bit of 0 is set, nor one above a word
 --     one-shifted        a word with one bit, as a shift makes it
 --     as-bits-below, as-bits-more, as-bits-at     the number whose bits pass a test, one number more, and its bits
 --     bits-determine, bits-are      numbers with the same bits are equal
 use mathlib.Core.Path.{_≡_, refl, sym, ap, _∙_}
-use mathlib.Core.Bool.{Bool, true, false, _&&_, _||_}
+use mathlib.Core.Bool.{Bool, true, false, not, _&&_, _||_}
 use Prim.Native.Nat.{ℕ, zero, suc, _+_, _-_, _*_, _/_, _%_, _^_, max, min, _<_}
-use native.Mathlib.Nat.{one-mul, pow-suc, div-eq-of-lt, zero-div, div-one, zero-add, not-suc-le-zero}
+use native.Mathlib.Nat.{one-mul, one-le-pow, pow-suc, div-eq-of-lt, zero-div, div-one, zero-add, not-suc-le-zero}
 use native.Mathlib.Numerals.{add-one}
 use native.Mathlib.Omega.{arith}
 use lib.Dec.{eqb, ltb, lit<}
-use lib.Bits.{bitAnd, bitOr, and-step, or-step, and-shr, or-shr, or-shifted}
+use lib.Bits.{bitAnd, bitOr, and-step, or-step, and-shr, or-shr, and-le-r, or-shifted}
 use lib.Pow.{pow-lt, pow-add, shl-exact, shl-shr, shr-shr}
 use borrow.Author.Tests.{eqb-true, eqb-false, eq-eqb, ne-eqb, ltb-true, ltb-false}
 use Rattle.rules.specs.Basics.{bit, when, asBits}
-use Rattle.rules.proofs.Bools.{by}
+use Rattle.rules.proofs.Bools.{by, clash}
 
 -- what holds of two digits, case by case
 two-digits : (P : ℕ → ℕ → Type 0) → P 0 0 → P 0 1 → P 1 0 → P 1 1 → (x y : ℕ) → x < 2 → y < 2 → P x y
@@ -137,3 +138,22 @@ bits-determine (suc k) v w lv lw h =
 
 pub bits-are : (k v : ℕ) (b : ℕ → Bool) → v < 2 ^ k → ((j : ℕ) → j < k → bit j v ≡ b j) → v ≡ asBits k b
 bits-are k v b l h = bits-determine k v (asBits k b) l (as-bits-below b k) (λ j i. h j i ∙ sym (as-bits-at b k j i))
+
+-- a bit, as the word that has it alone finds it
+pub bit-masked : (q v : ℕ) → not (eqb (bitAnd v (2 ^ q)) 0) ≡ bit q v
+bit-masked q v =
+    by
+    (bit q v)
+    (λ e. rw (e, ne-eqb (bitAnd v (2 ^ q)) 0 (λ z. clash (sym (ap (bit q) z) ∙ masked q ∙ rw (e, eq-eqb q q refl)) (bit-none q))))
+    (λ e. rw (e, eq-eqb (bitAnd v (2 ^ q)) 0 (bits-determine (suc q) (bitAnd v (2 ^ q)) 0 small (one-le-pow (suc q) 2 (omega arith)) (nothing e))))
+  where
+    masked : (j : ℕ) → bit j (bitAnd v (2 ^ q)) ≡ bit j v && eqb q j
+    masked j = bit-and j v (2 ^ q) ∙ rw (bit-one q j)
+
+    small : bitAnd v (2 ^ q) < 2 ^ suc q
+    small = rw (pow-suc 2 q) (omega (arith, and-le-r v (2 ^ q), one-le-pow q 2 (omega arith)))
+
+    nothing : bit q v ≡ false → (j : ℕ) → j < suc q → bit j (bitAnd v (2 ^ q)) ≡ bit j 0
+    nothing e j l =
+        masked j
+        ∙ by (eqb q j) (λ h. rw (h, ← eqb-true q j h, e, bit-none q)) (λ h. rw (h, bit-none j) (by (bit j v) (λ g. rw g) (λ g. rw g)))

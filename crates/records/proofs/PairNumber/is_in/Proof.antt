@@ -1,21 +1,21 @@
 -- `records::PairNumber::is_in` meets its contract: the bits of the set are moved up by one, so that pair 0 has one too, which is not set.
 use native.Mathlib.Omega.{arith}
 use borrow.Author.Needs.{needs}
-use Rattle.records.proofs.Packing.{marked-shifted}
+use Rattle.records.proofs.Packing.{marked-masked}
 use Rattle.records.proofs.PairNumber.is_in.Statement.{statement}
 use Rattle.records.proofs.PairNumber.is_in.Tie as tie
+
+cast-bit : tie.Need-cast-bit
+cast-bit c = search needs
+
+shl-bit : tie.Need-shl-bit
+shl-bit c = search needs
 
 mul-set : tie.Need-mul-set
 mul-set c = search needs
 
-cast-result : tie.Need-cast-result
-cast-result c = search needs
-
-shr-result : tie.Need-shr-result
-shr-result c = search needs
-
 returns : tie.Need-returns
-returns c = marked-shifted (c .args .pairs) (c .args .self .0) (omega arith)
+returns c = marked-masked (c .args .pairs) (c .args .self .0) (omega arith)
 
 pub is-in-spec : {M : Type 1} → statement M
-is-in-spec = tie.close (tie.spec mul-set cast-result shr-result returns)
+is-in-spec = tie.close (tie.spec cast-bit shl-bit mul-set returns)

@@ -7,17 +7,17 @@ use native.Mathlib.Omega.{arith}
 use lib.ListN.{drop, drop-of-length-le}
 use Rattle.rules.specs.Records.{Marks, priorityFrom, priority}
 use Rattle.records.specs.Words.{marksIn, places}
-use Rattle.records.proofs.Packing.{marked-either, decided-turn}
+use Rattle.records.proofs.Packing.{decided-turn}
 use Rattle.records.proofs.Record.priority.Statement.{statement}
 use Rattle.records.proofs.Record.priority.Tie as tie
 
 abbrev Inv-loop : tie.InvT-loop
-Inv-loop self prohibited required either best₀ p₀ best p =
+Inv-loop self prohibited required best₀ p₀ best p =
     priorityFrom p (marksIn prohibited required) (drop p (0 ∷ places (self .word))) best
     ≡ priority (marksIn prohibited required) (places (self .word))
 
 abbrev μ-loop : tie.MeasureT-loop
-μ-loop self prohibited required either best₀ p₀ best p = 7 - p
+μ-loop self prohibited required best₀ p₀ best p = 7 - p
 
 loop-holds : tie.Need-loop-holds Inv-loop μ-loop
 loop-holds c = refl
@@ -48,9 +48,8 @@ loop-again c =
     let o : List ℕ = places (s .self .word) in
     let pair = c .before .before .before .pair-at in
     let i : ℕ = pair .result .0 in
-    let hit = c .before .is-in2 .ensures ∙ marked-either (s .prohibited) (s .required) i in
     rw (add-one (turn .p))
-    (decided-turn o (turn .p) i (omega arith) (pair .ensures) m (c .before .before .is-in .result) (c .before .is-in2 .result) (c .before .before .is-in .ensures) hit (turn .best) (c .decided .result) (c .decided .ensures) ∙ turn .inv)
+    (decided-turn o (turn .p) i (omega arith) (pair .ensures) m (c .before .before .is-in .result) (c .before .is-in2 .result) (c .before .before .is-in .ensures) (c .before .is-in2 .ensures) (turn .best) (c .decided .result) (c .decided .ensures) ∙ turn .inv)
 
 returns : tie.Need-returns Inv-loop μ-loop
 returns c =
