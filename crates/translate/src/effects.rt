@@ -7,11 +7,10 @@ ghost use mathlib.Core.Path.{_≡_};
 ghost use mathlib.Core.Bool.{true};
 ghost use Prim.Native.Nat.{_+_, _*_, _<_, _≤_};
 ghost use lib.ListN.{length};
-ghost use Rattle.rules.specs.Basics.{pick};
 ghost use Rattle.rules.specs.Limits.{maxStates, maxLetters};
 ghost use Rattle.translate.specs.Keys.{wordIn};
 ghost use Rattle.translate.specs.Cells.{prohibitedIn, requiredIn};
-ghost use Rattle.translate.specs.Effects.{IsEffect, SameMarks, EffectsOn};
+ghost use Rattle.translate.specs.Effects.{IsEffect, SameMarks, OneEffect, EffectsOn};
 
 // The pairs that marks prohibit.
 fn prohibited_in(marks: u32) -> u8
@@ -58,37 +57,38 @@ fn same_marks(cells: &[u32], first: usize, m: usize) -> bool
     same
 }
 
-// How many effects a row has.
-fn effect_count(same: bool, m: usize) -> usize
-    ensures { λ r. ⌜ r ≡ pick same 1 m ⌝ }
+// Writes one effect for all letters.
+fn repeat_effect(effect: u32, m: usize, effects: &mut [u32])
+    requires { ⌜ (m ≤ maxLetters) × (maxLetters ≤ length (now effects)) ⌝ }
+    ensures { λ _. ⌜ OneEffect effect m (now (effects .exit)) ⌝ }
 {
-    if same { 1 } else { m }
-}
-
-// Where the effect of a letter stands among those of its row.
-pub(crate) fn effect_place(same: bool, a: usize) -> usize
-    ensures { λ r. ⌜ r ≡ pick same 0 a ⌝ }
-{
-    if same { 0 } else { a }
-}
-
-// Writes the effects of the cells of a row on its record, and says whether there is one for all.
-pub(crate) fn write_effects(
-    cells: &[u32],
-    first: usize,
-    m: usize,
-    key: u32,
-    effects: &mut [u32],
-) -> bool
-    requires { ⌜ (m ≤ maxLetters) × (0 < m) × (first < maxStates * maxLetters) × (first + m ≤ length (now cells)) × (maxLetters ≤ length (now effects)) ⌝ }
-    ensures { λ r. ⌜ EffectsOn (wordIn key) first m (now (cells .entry)) r (now (effects .exit)) ⌝ }
-{
-    let same = same_marks(cells, first, m);
-    let count = effect_count(same, m);
     let mut a = 0;
-    while a < count {
+    while a < m {
+        effects[a] = effect;
+        a += 1;
+    }
+}
+
+// Writes the effect of each letter.
+fn write_each(cells: &[u32], first: usize, m: usize, key: u32, effects: &mut [u32])
+    requires { ⌜ (m ≤ maxLetters) × (first < maxStates * maxLetters) × (first + m ≤ length (now cells)) × (maxLetters ≤ length (now effects)) ⌝ }
+    ensures { λ _. ⌜ EffectsOn (wordIn key) first m (now (cells .entry)) (now (effects .exit)) ⌝ }
+{
+    let mut a = 0;
+    while a < m {
         effects[a] = effect_of(marks_of(cells[first + a]), key);
         a += 1;
     }
-    same
+}
+
+// Writes the effects of the cells of a row on its record.
+pub(crate) fn write_effects(cells: &[u32], first: usize, m: usize, key: u32, effects: &mut [u32])
+    requires { ⌜ (m ≤ maxLetters) × (0 < m) × (first < maxStates * maxLetters) × (first + m ≤ length (now cells)) × (maxLetters ≤ length (now effects)) ⌝ }
+    ensures { λ _. ⌜ EffectsOn (wordIn key) first m (now (cells .entry)) (now (effects .exit)) ⌝ }
+{
+    if same_marks(cells, first, m) {
+        repeat_effect(effect_of(marks_of(cells[first]), key), m, effects);
+    } else {
+        write_each(cells, first, m, key, effects);
+    }
 }

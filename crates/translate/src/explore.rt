@@ -2,7 +2,6 @@
 // lent arrays is written once, as it is read.
 use crate::cells::is_missing;
 use crate::cells::next_key;
-use crate::effects::effect_place;
 use crate::effects::write_effects;
 use crate::filing::rows_after;
 use crate::filing::settle;
@@ -30,7 +29,7 @@ const FEW_SLOTS: usize = 128;
 // The slots of the index of many rows.
 const SLOTS: usize = 16384;
 
-// Reads row i by the letter a, whose cell's word and effect are given, and gives how many rows are known then.
+// Reads row i by the letter a, cell p of the parity table, whose word and effect are given, and gives how many rows are known then.
 fn read_letter(
     table: &[u8],
     entries: &[u32],
@@ -38,6 +37,7 @@ fn read_letter(
     effect: u32,
     i: usize,
     a: usize,
+    p: usize,
     n: usize,
     capacity: usize,
     keys: &mut [u32],
@@ -48,11 +48,9 @@ fn read_letter(
     targets: &mut [u16],
     priorities: &mut [u8],
 ) -> usize
-    requires { ⌜ Taken (now table) × Entries (tableOf (now table)) (now entries) × (i < n) × (a < lettersOf (now table)) × (word ≡ cellWord (tableOf (now table)) (sourceIn (getD (now keys) i 0)) a) × IsEffect (wordIn (getD (now keys) i 0)) (cellMarks word) effect × Known (now table) capacity n (cell (lettersOf (now table)) i a) (now keys) (now heads) (now links) (now sources) (now records) (now targets) (now priorities) ⌝ }
+    requires { ⌜ Taken (now table) × Entries (tableOf (now table)) (now entries) × (i < n) × (a < lettersOf (now table)) × (p ≡ cell (lettersOf (now table)) i a) × (word ≡ cellWord (tableOf (now table)) (sourceIn (getD (now keys) i 0)) a) × IsEffect (wordIn (getD (now keys) i 0)) (cellMarks word) effect × Known (now table) capacity n (cell (lettersOf (now table)) i a) (now keys) (now heads) (now links) (now sources) (now records) (now targets) (now priorities) ⌝ }
     ensures { λ r. ⌜ LetterSays (now (table .entry)) capacity n i a (now (keys .entry)) (now (keys .exit)) (now (heads .exit)) (now (links .exit)) (now (sources .entry)) (now (sources .exit)) (now (records .entry)) (now (records .exit)) (now (targets .entry)) (now (targets .exit)) (now (priorities .entry)) (now (priorities .exit)) r ⌝ }
 {
-    let m = table[1] as usize;
-    let p = i * m + a;
     if is_missing(word) {
         targets[p] = NO_ROW;
         priorities[p] = 0;
@@ -71,7 +69,6 @@ fn read_letters(
     cells: &[u32],
     entries: &[u32],
     first: usize,
-    same: bool,
     effects: &[u32],
     i: usize,
     n: usize,
@@ -84,15 +81,16 @@ fn read_letters(
     targets: &mut [u16],
     priorities: &mut [u8],
 ) -> usize
-    requires { ⌜ Taken (now table) × AllCells (tableOf (now table)) (now cells) × Entries (tableOf (now table)) (now entries) × (i < n) × (first ≡ sourceIn (getD (now keys) i 0) * lettersOf (now table)) × (maxLetters ≤ length (now effects)) × EffectsOn (wordIn (getD (now keys) i 0)) first (lettersOf (now table)) (now cells) same (now effects) × Known (now table) capacity n (i * lettersOf (now table)) (now keys) (now heads) (now links) (now sources) (now records) (now targets) (now priorities) ⌝ }
+    requires { ⌜ Taken (now table) × AllCells (tableOf (now table)) (now cells) × Entries (tableOf (now table)) (now entries) × (i < n) × (first ≡ sourceIn (getD (now keys) i 0) * lettersOf (now table)) × (maxLetters ≤ length (now effects)) × EffectsOn (wordIn (getD (now keys) i 0)) first (lettersOf (now table)) (now cells) (now effects) × Known (now table) capacity n (i * lettersOf (now table)) (now keys) (now heads) (now links) (now sources) (now records) (now targets) (now priorities) ⌝ }
     ensures { λ r. ⌜ RowSays (now (table .entry)) capacity n i (now (keys .entry)) (now (keys .exit)) (now (heads .exit)) (now (links .exit)) (now (sources .entry)) (now (sources .exit)) (now (records .entry)) (now (records .exit)) (now (targets .entry)) (now (targets .exit)) (now (priorities .entry)) (now (priorities .exit)) r ⌝ }
 {
     let m = table[1] as usize;
+    let start = i * m;
     let mut known = n;
     let mut a = 0;
     while (a < m) & (known <= capacity) {
         let word = cells[first + a];
-        let effect = effects[effect_place(same, a)];
+        let effect = effects[a];
         known = read_letter(
             table,
             entries,
@@ -100,6 +98,7 @@ fn read_letters(
             effect,
             i,
             a,
+            start + a,
             known,
             capacity,
             keys,
@@ -138,13 +137,12 @@ fn read_row(
     let key = keys[i];
     let first = (key / SPAN) as usize * m;
     let mut effects = [0; MAX_LETTERS as usize];
-    let same = write_effects(cells, first, m, key, &mut effects);
+    write_effects(cells, first, m, key, &mut effects);
     read_letters(
         table,
         cells,
         entries,
         first,
-        same,
         &effects,
         i,
         n,

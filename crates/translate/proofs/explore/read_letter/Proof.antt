@@ -35,19 +35,19 @@ module _ (c : tie.Start) where
   table = taken-table bytes (c .pre .0)
 
   code : IsKey (tableOf bytes) v
-  code = c .pre .6 .coded (c .args .i) (c .pre .2)
+  code = c .pre .7 .coded (c .args .i) (c .pre .2)
 
   in-rows : cell (lettersOf bytes) (c .args .i) (c .args .a) < c .args .capacity * lettersOf bytes
   in-rows =
-      cell-within (c .args .capacity) (lettersOf bytes) (c .args .i) (c .args .a) (omega (arith, c .pre .2, c .pre .6 .filed .few)) (c .pre .3)
+      cell-within (c .args .capacity) (lettersOf bytes) (c .args .i) (c .args .a) (omega (arith, c .pre .2, c .pre .7 .filed .few)) (c .pre .3)
 
   few-rows : c .args .capacity * lettersOf bytes ≤ maxRows * maxLetters
-  few-rows = mul-le-mul (c .pre .6 .filed .most) (table .sizes .most-letters)
+  few-rows = mul-le-mul (c .pre .7 .filed .most) (table .sizes .most-letters)
 
 -- the transition is there
 module _ (c : tie.Else1) where
   abbrev s : tie.Start
-  s = c .before .before .before .before .before .before .before .before .before .before .before .before
+  s = c .before .before .before .before .before .before .before .before .before .before .before
 
   abbrev x : Step (Row (List ℕ))
   x = planIn (bytes s) .step (keyRow (v s)) (s .args .a)
@@ -56,10 +56,10 @@ module _ (c : tie.Else1) where
   present = sym (c .before .is-missing .ensures) ∙ c .if1 .left
 
   there : (x .there ≡ true) × (targetIn (s .args .word) < tableOf (bytes s) .states) × IsRow (tableOf (bytes s)) (x .to)
-  there = key-there (bytes s) (s .pre .0) (s .args .a) _ _ (code s) (s .pre .4) present
+  there = key-there (bytes s) (s .pre .0) (s .args .a) _ _ (code s) (s .pre .5) present
 
   priority-is : s .args .effect / span ≡ x .prio
-  priority-is = key-priority (bytes s) (s .pre .0) (s .args .a) _ _ (code s) (s .pre .4) _ (s .pre .5) present
+  priority-is = key-priority (bytes s) (s .pre .0) (s .args .a) _ _ (code s) (s .pre .5) _ (s .pre .6) present
 
 -- its target's key is worked out
 module _ (c : tie.After-next-key) where
@@ -67,7 +67,7 @@ module _ (c : tie.After-next-key) where
   o = c .before
 
   next-is : c .next-key .result ≡ rowKey (x o .to)
-  next-is = c .next-key .ensures ∙ key-next (bytes (s o)) (s o .pre .0) (s o .args .a) _ _ (code (s o)) (s o .pre .4) _ (s o .pre .5) (present o) (s o .args .entries .now) (s o .pre .1)
+  next-is = c .next-key .ensures ∙ key-next (bytes (s o)) (s o .pre .0) (s o .args .a) _ _ (code (s o)) (s o .pre .5) _ (s o .pre .6) (present o) (s o .args .entries .now) (s o .pre .1)
 
   next-below : c .next-key .result < 256 * span
   next-below =
@@ -84,31 +84,19 @@ module _ (c : tie.After-slice-known12) where
   e = c .before .before .before .before .before .before .before .before .before .before
 
   number-few : e .settle .result ≤ s (o nk) .args .n
-  number-few = omega (arith, e .settle .ensures .number, number-most (s (o nk) .args .n) (nk .next-key .result) (s (o nk) .args .keys .now) (omega (arith, s (o nk) .pre .6 .filed .few, s (o nk) .pre .6 .filed .key-room)))
-
-shared-slice-read-m : tie.Need-shared-slice-read-m
-shared-slice-read-m c = let s = c .before .before .before .before .before .before .before .before .before .before in omega (arith, table s)
-
-cast-m : tie.Need-cast-m
-cast-m c = let s = c .before .before .before .before .before .before .before .before .before .before in omega (arith, table s)
-
-mul-p : tie.Need-mul-p
-mul-p c = let s = c .before .before .before .before .before .before .before .before .before .before in omega (arith, in-rows s, few-rows s)
-
-add-p : tie.Need-add-p
-add-p c = let s = c .before .before .before .before .before .before .before .before .before .before in omega (arith, in-rows s, few-rows s)
+  number-few = omega (arith, e .settle .ensures .number, number-most (s (o nk) .args .n) (nk .next-key .result) (s (o nk) .args .keys .now) (omega (arith, s (o nk) .pre .7 .filed .few, s (o nk) .pre .7 .filed .key-room)))
 
 is-missing-requires : tie.Need-is-missing-requires
 is-missing-requires c κs = search needs
 
 mul-targets : tie.Need-mul-targets
-mul-targets c = let s = c .before .before .before .before .before .before .before .before .before .before .before .before in omega (arith, in-rows s, few-rows s)
+mul-targets c = let s = c .before .before .before .before .before .before .before .before .before .before .before in omega (arith, s .pre .4, in-rows s, few-rows s)
 
 slice-write-targets : tie.Need-slice-write-targets
-slice-write-targets c = let s = c .before .before .before .before .before .before .before .before .before .before .before .before in omega (arith, in-rows s, s .pre .6 .target-room)
+slice-write-targets c = let s = c .before .before .before .before .before .before .before .before .before .before .before in omega (arith, s .pre .4, in-rows s, s .pre .7 .target-room)
 
 slice-write-priorities : tie.Need-slice-write-priorities
-slice-write-priorities c = let s = c .before .before .before .before .before .before .before .before .before .before .before .before in omega (arith, in-rows s, s .pre .6 .priority-room)
+slice-write-priorities c = let s = c .before .before .before .before .before .before .before .before .before .before .before in omega (arith, s .pre .4, in-rows s, s .pre .7 .priority-room)
 
 same-length : tie.Need-same-length
 same-length c = simp length-set
@@ -118,33 +106,33 @@ same-length-2 c = simp length-set
 
 returns : tie.Need-returns
 returns c =
-    let s = c .before .before .before .before .before .before .before .before .before .before .before .before in
-    let gone = key-missing (bytes s) (s .pre .0) (s .args .a) _ _ (code s) (s .pre .4) (sym (c .before .is-missing .ensures) ∙ c .if1 .taken) in
-    letter-missing (bytes s) (s .pre .0) _ _ _ _ _ _ _ _ _ _ _ (s .pre .2) (s .pre .3) (s .pre .6) (gone .0) (gone .1)
+    let s = c .before .before .before .before .before .before .before .before .before .before .before in
+    let gone = key-missing (bytes s) (s .pre .0) (s .args .a) _ _ (code s) (s .pre .5) (sym (c .before .is-missing .ensures) ∙ c .if1 .taken) in
+    rw (s .pre .4) (letter-missing (bytes s) (s .pre .0) _ _ _ _ _ _ _ _ _ _ _ (s .pre .2) (s .pre .3) (s .pre .7) (gone .0) (gone .1))
 
 next-key-requires : tie.Need-next-key-requires
 next-key-requires c κs = (omega (arith, there c .1, s c .pre .1 .enough), omega arith)
 
 settle-requires : tie.Need-settle-requires
-settle-requires c κs = (c .before .before .before .before .before .before .before .before .before .before .before .before .before .before .before .before .before .before .pre .6 .filed, next-below (c .before .before .before .before .before))
+settle-requires c κs = (c .before .before .before .before .before .before .before .before .before .before .before .before .before .before .before .before .before .pre .7 .filed, next-below (c .before .before .before .before .before))
 
 cast-targets : tie.Need-cast-targets
-cast-targets c = let s = c .before .before .before .before .before .before .before .before .before .before .before .before .before .before .before .before .before .before .before .before .before .before .before .before .before .before .before .before .before in omega (arith, number-few c, s .pre .6 .filed .few, s .pre .6 .filed .most)
+cast-targets c = let s = c .before .before .before .before .before .before .before .before .before .before .before .before .before .before .before .before .before .before .before .before .before .before .before .before .before .before .before .before in omega (arith, number-few c, s .pre .7 .filed .few, s .pre .7 .filed .most)
 
 mul-targets-2 : tie.Need-mul-targets-2
-mul-targets-2 c = let s = c .before .before .before .before .before .before .before .before .before .before .before .before .before .before .before .before .before .before .before .before .before .before .before .before .before .before .before .before .before in omega (arith, in-rows s, few-rows s)
+mul-targets-2 c = let s = c .before .before .before .before .before .before .before .before .before .before .before .before .before .before .before .before .before .before .before .before .before .before .before .before .before .before .before .before in omega (arith, s .pre .4, in-rows s, few-rows s)
 
 slice-write-targets-2 : tie.Need-slice-write-targets-2
-slice-write-targets-2 c = let s = c .before .before .before .before .before .before .before .before .before .before .before .before .before .before .before .before .before .before .before .before .before .before .before .before .before .before .before .before .before in omega (arith, in-rows s, s .pre .6 .target-room)
+slice-write-targets-2 c = let s = c .before .before .before .before .before .before .before .before .before .before .before .before .before .before .before .before .before .before .before .before .before .before .before .before .before .before .before .before in omega (arith, s .pre .4, in-rows s, s .pre .7 .target-room)
 
 cast-priorities : tie.Need-cast-priorities
-cast-priorities c = let s = c .before .before .before .before .before .before .before .before .before .before .before .before .before .before .before .before .before .before .before .before .before .before .before .before .before .before .before .before .before in omega (arith, s .pre .5 .small)
+cast-priorities c = let s = c .before .before .before .before .before .before .before .before .before .before .before .before .before .before .before .before .before .before .before .before .before .before .before .before .before .before .before .before in omega (arith, s .pre .6 .small)
 
 slice-write-priorities-2 : tie.Need-slice-write-priorities-2
-slice-write-priorities-2 c = let s = c .before .before .before .before .before .before .before .before .before .before .before .before .before .before .before .before .before .before .before .before .before .before .before .before .before .before .before .before .before in omega (arith, in-rows s, s .pre .6 .priority-room)
+slice-write-priorities-2 c = let s = c .before .before .before .before .before .before .before .before .before .before .before .before .before .before .before .before .before .before .before .before .before .before .before .before .before .before .before .before in omega (arith, s .pre .4, in-rows s, s .pre .7 .priority-room)
 
 rows-after-requires : tie.Need-rows-after-requires
-rows-after-requires c κs = let s = c .before .before .before .before .before .before .before .before .before .before .before .before .before .before .before .before .before .before .before .before .before .before .before .before .before .before .before .before .before in omega (arith, s .pre .6 .filed .few, s .pre .6 .filed .most)
+rows-after-requires c κs = let s = c .before .before .before .before .before .before .before .before .before .before .before .before .before .before .before .before .before .before .before .before .before .before .before .before .before .before .before .before in omega (arith, s .pre .7 .filed .few, s .pre .7 .filed .most)
 
 same-length-3 : tie.Need-same-length-3
 same-length-3 c = e (c .before) .settle .kept .1 .1 .1 .0
@@ -172,16 +160,12 @@ returns-2 c =
     let k = c .before in
     let n = nk k in
     let t = s (o n) in
-    letter-there (bytes t) (t .pre .0) _ _ _ _ _ _ _ _ _ _ _ (t .pre .2) (t .pre .3) (t .pre .6) _ _ _ _ _ _ _ _ (e k .settle .ensures) (there (o n) .0) (there (o n) .2) (next-is n) (priority-is (o n)) _ (c .rows-after .ensures)
+    rw (t .pre .4) (letter-there (bytes t) (t .pre .0) _ _ _ _ _ _ _ _ _ _ _ (t .pre .2) (t .pre .3) (t .pre .7) _ _ _ _ _ _ _ _ (e k .settle .ensures) (there (o n) .0) (there (o n) .2) (next-is n) (priority-is (o n)) _ (c .rows-after .ensures))
 
 pub read-letter-spec : {M : Type 1} → statement M
 read-letter-spec =
     tie.close
     (tie.spec
-    shared-slice-read-m
-    cast-m
-    mul-p
-    add-p
     is-missing-requires
     mul-targets
     slice-write-targets

@@ -1,15 +1,15 @@
 -- `translate::explore::read_letters` meets its contract. The invariant: the row is read by the letters below a.
 use mathlib.Core.Path.{_≡_, refl, ap, _∙_, subst⁻¹}
-use mathlib.Core.Bool.{Bool}
 use mathlib.Core.List.{List}
 use Prim.Native.Nat.{ℕ, _+_, _-_, _*_, _<_, _≤_}
+use native.Mathlib.Nat.{mul-le-mul}
 use native.Mathlib.Omega.{arith}
 use borrow.Author.Tests.{ltb-true, leb-true}
 use lib.Dec.{ltb, leb}
 use lib.ListN.{length, getD}
-use Rattle.rules.specs.Basics.{pick}
+use Rattle.rules.specs.Limits.{maxRows, maxLetters}
 use Rattle.rules.specs.Tables.{tableOf}
-use Rattle.rules.proofs.Bools.{by, and-parts}
+use Rattle.rules.proofs.Bools.{and-parts}
 use Rattle.rules.proofs.Refusals.{TakenTable, taken-table}
 use Rattle.tables.proofs.Cells.{cell-within}
 use Rattle.translate.specs.Keys.{sourceIn, wordIn, IsKey}
@@ -21,12 +21,12 @@ use Rattle.translate.proofs.explore.read_letters.Statement.{statement}
 use Rattle.translate.proofs.explore.read_letters.Tie as tie
 
 abbrev Inv-loop : tie.InvT-loop
-Inv-loop table cells entries first same effects i n capacity keys₀ heads₀ links₀ sources₀ records₀ targets₀ priorities₀ m known₀ a₀ keys heads links sources records targets priorities known a =
+Inv-loop table cells entries first effects i n capacity keys₀ heads₀ links₀ sources₀ records₀ targets₀ priorities₀ m start known₀ a₀ keys heads links sources records targets priorities known a =
     RowPart table capacity n i a keys₀ keys heads links sources₀ sources records₀ records targets₀ targets priorities₀ priorities known
     × (length keys ≡ length keys₀) × (length heads ≡ length heads₀) × (length links ≡ length links₀)
 
 abbrev μ-loop : tie.MeasureT-loop
-μ-loop table cells entries first same effects i n capacity keys₀ heads₀ links₀ sources₀ records₀ targets₀ priorities₀ m known₀ a₀ keys heads links sources records targets priorities known a = m - a
+μ-loop table cells entries first effects i n capacity keys₀ heads₀ links₀ sources₀ records₀ targets₀ priorities₀ m start known₀ a₀ keys heads links sources records targets priorities known a = m - a
 
 -- what holds at the entry
 module _ (c : tie.Start Inv-loop μ-loop) where
@@ -46,6 +46,11 @@ module _ (c : tie.Start Inv-loop μ-loop) where
   here-within a l =
       omega (arith, c .pre .4, cell-within (tableOf bytes .states) (lettersOf bytes) (sourceIn v) a (code .is-row .state) l)
 
+  -- the cells of the parity table
+  in-rows : (a : ℕ) → a < lettersOf bytes → c .args .i * lettersOf bytes + a < maxRows * maxLetters
+  in-rows a l =
+      omega (arith, cell-within (c .args .capacity) (lettersOf bytes) (c .args .i) a (omega (arith, c .pre .3, c .pre .7 .filed .few)) l, mul-le-mul (c .pre .7 .filed .most) (table .sizes .most-letters))
+
 -- a letter is left, and there is room
 module _ (c : tie.In-loop Inv-loop μ-loop) where
   abbrev s : tie.Start Inv-loop μ-loop
@@ -59,22 +64,15 @@ module _ (c : tie.In-loop Inv-loop μ-loop) where
   here : s .args .first + c .before .loop .a < tableOf (bytes s) .states * lettersOf (bytes s)
   here = here-within s (c .before .loop .a) (tests .0)
 
--- the place of an effect is among the letters
-place-few : (same : Bool) (a m r : ℕ) → a < m → r ≡ pick same 0 a → r < m
-place-few same a m r l e = by same (λ h. omega (arith, rw h at e)) (λ h. omega (arith, rw h at e))
-
-module _ (c : tie.After-effect-place Inv-loop μ-loop) where
-  abbrev turn : tie.In-loop Inv-loop μ-loop
-  turn = c .before .before
-
-  place-below : c .effect-place .result < lettersOf (bytes (s turn))
-  place-below = place-few (s turn .args .same) _ _ _ (tests turn .0) (c .effect-place .ensures)
-
 shared-slice-read-m : tie.Need-shared-slice-read-m Inv-loop μ-loop
 shared-slice-read-m c = omega (arith, table (c .before .before .before .before .before .before .before .before .before .before .before .before))
 
 cast-m : tie.Need-cast-m Inv-loop μ-loop
 cast-m c = omega (arith, table (c .before .before .before .before .before .before .before .before .before .before .before .before))
+
+mul-start : tie.Need-mul-start Inv-loop μ-loop
+mul-start c =
+    let s = c .before .before .before .before .before .before .before .before .before .before .before .before in omega (arith, in-rows s 0 (table s .sizes .some-letters))
 
 loop-holds : tie.Need-loop-holds Inv-loop μ-loop
 loop-holds c = (row-begun _ _ _ _ _ _ _ _ _ _ _ (c .before .before .before .before .before .before .before .before .before .before .before .before .pre .7), refl, refl, refl)
@@ -88,39 +86,38 @@ mul-word c = omega (arith, table (s c), here c)
 shared-slice-read-word : tie.Need-shared-slice-read-word Inv-loop μ-loop
 shared-slice-read-word c = omega (arith, here (c .before), s (c .before) .pre .1 .enough)
 
-effect-place-requires : tie.Need-effect-place-requires Inv-loop μ-loop
-effect-place-requires c κs = tt
-
 mul-effect : tie.Need-mul-effect Inv-loop μ-loop
-mul-effect c = omega (arith, place-below c, table (s (turn c)))
+mul-effect c = let u = c .before in omega (arith, tests u .0, table (s u))
 
 shared-slice-read-effect : tie.Need-shared-slice-read-effect Inv-loop μ-loop
-shared-slice-read-effect c = let e = c .before in omega (arith, place-below e, table (s (turn e)), s (turn e) .pre .5)
+shared-slice-read-effect c = let u = c .before .before in omega (arith, tests u .0, table (s u), s u .pre .5)
+
+add-read-letter : tie.Need-add-read-letter Inv-loop μ-loop
+add-read-letter c = let u = c .before .before in omega (arith, in-rows (s u) (u .before .loop .a) (tests u .0))
 
 read-letter-requires : tie.Need-read-letter-requires Inv-loop μ-loop
 read-letter-requires c κs =
-    let e : tie.After-effect-place Inv-loop μ-loop = c .before .before .before .before .before .before .before .before in
-    let u = turn e in
+    let u : tie.In-loop Inv-loop μ-loop = c .before .before .before .before .before .before .before .before .before in
     let t = s u in
     let f = u .before .loop .inv .0 in
     let same = f .front (tests u .1) in
     let a = u .before .loop .a in
-    (t .pre .0, t .pre .2, omega (arith, t .pre .3, f .longer), tests u .0, subst⁻¹ (λ (x : ℕ). getD (t .args .cells .now) (t .args .first + a) 0 ≡ cellWord (tableOf (bytes t)) (sourceIn x) a) same (ap (λ (x : ℕ). getD (t .args .cells .now) (x + a) 0) (t .pre .4) ∙ t .pre .1 .entry (sourceIn (v t)) a (tests u .0) (omega (arith, t .pre .4, here u))), subst⁻¹ (λ (x : ℕ). IsEffect (wordIn x) (cellMarks (getD (t .args .cells .now) (t .args .first + a) 0)) (getD (t .args .effects .now) (e .effect-place .result) 0)) same (subst⁻¹ (λ (x : ℕ). IsEffect (wordIn (v t)) (cellMarks (getD (t .args .cells .now) (t .args .first + a) 0)) (getD (t .args .effects .now) x 0)) (e .effect-place .ensures) (t .pre .6 a (tests u .0))), f .known (tests u .1))
+    (t .pre .0, t .pre .2, omega (arith, t .pre .3, f .longer), tests u .0, refl, subst⁻¹ (λ (x : ℕ). getD (t .args .cells .now) (t .args .first + a) 0 ≡ cellWord (tableOf (bytes t)) (sourceIn x) a) same (ap (λ (x : ℕ). getD (t .args .cells .now) (x + a) 0) (t .pre .4) ∙ t .pre .1 .entry (sourceIn (v t)) a (tests u .0) (omega (arith, t .pre .4, here u))), subst⁻¹ (λ (x : ℕ). IsEffect (wordIn x) (cellMarks (getD (t .args .cells .now) (t .args .first + a) 0)) (getD (t .args .effects .now) a 0)) same (t .pre .6 a (tests u .0)), f .known (tests u .1))
 
 add-a : tie.Need-add-a Inv-loop μ-loop
 add-a c =
-    let turn : tie.In-loop Inv-loop μ-loop = c .before .before .before .before .before .before .before .before .before .before .before .before .before .before .before .before .before .before .before .before .before .before .before .before .before in omega (arith, tests turn .0, table (s turn))
+    let turn : tie.In-loop Inv-loop μ-loop = c .before .before .before .before .before .before .before .before .before .before .before .before .before .before .before .before .before .before .before .before .before .before .before .before in omega (arith, tests turn .0, table (s turn))
 
 loop-less : tie.Need-loop-less Inv-loop μ-loop
 loop-less c =
-    let turn : tie.In-loop Inv-loop μ-loop = c .before .before .before .before .before .before .before .before .before .before .before .before .before .before .before .before .before .before .before .before .before .before .before .before .before in omega (arith, tests turn .0)
+    let turn : tie.In-loop Inv-loop μ-loop = c .before .before .before .before .before .before .before .before .before .before .before .before .before .before .before .before .before .before .before .before .before .before .before .before in omega (arith, tests turn .0)
 
 loop-again : tie.Need-loop-again Inv-loop μ-loop
 loop-again c =
-    let turn : tie.In-loop Inv-loop μ-loop = c .before .before .before .before .before .before .before .before .before .before .before .before .before .before .before .before .before .before .before .before .before .before .before .before .before in
+    let turn : tie.In-loop Inv-loop μ-loop = c .before .before .before .before .before .before .before .before .before .before .before .before .before .before .before .before .before .before .before .before .before .before .before .before in
     let call : tie.After-read-letter Inv-loop μ-loop = c .before .before .before .before .before .before .before .before .before .before .before .before .before .before in
     let f = turn .before .loop .inv in
-    (row-next _ _ _ _ _ _ _ _ _ _ _ _ _ _ _ _ _ _ _ _ _ _ _ _ _ _ (s turn .pre .3) (tests turn .0) (tests turn .1) (f .0) (call .read-letter .ensures), call .read-letter .kept .1 .1 .1 .1 .1 .1 .1 .1 .0 ∙ f .1, call .read-letter .kept .1 .1 .1 .1 .1 .1 .1 .1 .1 .0 ∙ f .2, call .read-letter .kept .1 .1 .1 .1 .1 .1 .1 .1 .1 .1 .0 ∙ f .3)
+    (row-next _ _ _ _ _ _ _ _ _ _ _ _ _ _ _ _ _ _ _ _ _ _ _ _ _ _ (s turn .pre .3) (tests turn .0) (tests turn .1) (f .0) (call .read-letter .ensures), call .read-letter .kept .1 .1 .1 .1 .1 .1 .1 .1 .1 .0 ∙ f .1, call .read-letter .kept .1 .1 .1 .1 .1 .1 .1 .1 .1 .1 .0 ∙ f .2, call .read-letter .kept .1 .1 .1 .1 .1 .1 .1 .1 .1 .1 .1 .0 ∙ f .3)
 
 same-length : tie.Need-same-length Inv-loop μ-loop
 same-length c = c .before .loop .inv .1
@@ -155,13 +152,14 @@ read-letters-spec =
     μ-loop
     shared-slice-read-m
     cast-m
+    mul-start
     loop-holds
     add-word
     mul-word
     shared-slice-read-word
-    effect-place-requires
     mul-effect
     shared-slice-read-effect
+    add-read-letter
     read-letter-requires
     add-a
     loop-less
