@@ -264,16 +264,8 @@ fn explore_many(
     )
 }
 
-// Ten states with three pairs have at most 60 rows. Nothing rests on this but the time that it takes.
-fn is_small(table: &[u8]) -> bool
-    requires { ⌜ Taken (now table) ⌝ }
-{
-    (table[0] <= 10) & (table[2] <= 3)
-}
-
-// The same for a table that looks small: the small arrays are tried first, whatever the capacity. Clearing the large ones would take
-// longer than reading all rows.
-fn explore_small(
+// The same, with small arrays for a small capacity: clearing the large ones would take longer than reading few rows.
+fn explore_for(
     table: &[u8],
     cells: &[u32],
     entries: &[u32],
@@ -283,23 +275,85 @@ fn explore_small(
     targets: &mut [u16],
     priorities: &mut [u8],
 ) -> usize
-    requires { ⌜ Taken (now table) × AllCells (tableOf (now table)) (now cells) × Entries (tableOf (now table)) (now entries) × Room (now table) capacity (now targets) (now priorities) (now sources) (now records) × (fewRows ≤ capacity) ⌝ }
+    requires { ⌜ Taken (now table) × AllCells (tableOf (now table)) (now cells) × Entries (tableOf (now table)) (now entries) × Room (now table) capacity (now targets) (now priorities) (now sources) (now records) ⌝ }
     ensures { λ r. ⌜ ExploreSays (now (table .entry)) capacity (now (sources .entry)) (now (sources .exit)) (now (records .entry)) (now (records .exit)) (now (targets .entry)) (now (targets .exit)) (now (priorities .entry)) (now (priorities .exit)) r ⌝ }
 {
-    let found = explore_few(
+    if capacity <= FEW_ROWS {
+        return explore_few(
+            table,
+            cells,
+            entries,
+            capacity,
+            sources,
+            records,
+            targets,
+            priorities,
+        );
+    }
+    explore_many(
         table,
         cells,
         entries,
-        FEW_ROWS,
+        capacity,
+        sources,
+        records,
+        targets,
+        priorities,
+    )
+}
+
+// The orders of so many pairs, of six where there are more.
+fn orders_of(pairs: u8) -> usize
+    ensures { λ r. ⌜ r ≤ 720 ⌝ }
+{
+    match pairs {
+        0 | 1 => 1,
+        2 => 2,
+        3 => 6,
+        4 => 24,
+        5 => 120,
+        _ => 720,
+    }
+}
+
+// How many rows to try first: n states with k pairs have at most n · k! rows. Nothing rests on this but the time that it takes.
+fn tried_first(table: &[u8]) -> usize
+    requires { ⌜ Taken (now table) ⌝ }
+    ensures { λ r. ⌜ 0 < r ⌝ }
+{
+    let rows = table[0] as usize * orders_of(table[2]);
+    if rows <= FEW_ROWS { FEW_ROWS } else { MAX_ROWS }
+}
+
+// The same where fewer rows than the capacity are tried first.
+fn explore_first(
+    first: usize,
+    table: &[u8],
+    cells: &[u32],
+    entries: &[u32],
+    capacity: usize,
+    sources: &mut [u8],
+    records: &mut [u32],
+    targets: &mut [u16],
+    priorities: &mut [u8],
+) -> usize
+    requires { ⌜ Taken (now table) × AllCells (tableOf (now table)) (now cells) × Entries (tableOf (now table)) (now entries) × Room (now table) capacity (now targets) (now priorities) (now sources) (now records) × (0 < first) × (first ≤ capacity) ⌝ }
+    ensures { λ r. ⌜ ExploreSays (now (table .entry)) capacity (now (sources .entry)) (now (sources .exit)) (now (records .entry)) (now (records .exit)) (now (targets .entry)) (now (targets .exit)) (now (priorities .entry)) (now (priorities .exit)) r ⌝ }
+{
+    let found = explore_for(
+        table,
+        cells,
+        entries,
+        first,
         sources,
         records,
         targets,
         priorities,
     );
-    if found <= FEW_ROWS {
+    if found <= first {
         return found;
     }
-    explore_many(
+    explore_for(
         table,
         cells,
         entries,
@@ -325,8 +379,10 @@ pub(crate) fn find_rows(
     requires { ⌜ Taken (now table) × AllCells (tableOf (now table)) (now cells) × Entries (tableOf (now table)) (now entries) × Room (now table) capacity (now targets) (now priorities) (now sources) (now records) ⌝ }
     ensures { λ r. ⌜ ExploreSays (now (table .entry)) capacity (now (sources .entry)) (now (sources .exit)) (now (records .entry)) (now (records .exit)) (now (targets .entry)) (now (targets .exit)) (now (priorities .entry)) (now (priorities .exit)) r ⌝ }
 {
-    if capacity <= FEW_ROWS {
-        return explore_few(
+    let first = tried_first(table);
+    if first < capacity {
+        return explore_first(
+            first,
             table,
             cells,
             entries,
@@ -337,19 +393,7 @@ pub(crate) fn find_rows(
             priorities,
         );
     }
-    if is_small(table) {
-        return explore_small(
-            table,
-            cells,
-            entries,
-            capacity,
-            sources,
-            records,
-            targets,
-            priorities,
-        );
-    }
-    explore_many(
+    explore_for(
         table,
         cells,
         entries,

@@ -129,14 +129,6 @@ impl Buffers {
         self.records.fill(0xDEAD_BEEF);
     }
 
-    /// Whether the first rows of two bundles of arrays are the same.
-    fn same_rows(&self, other: &Buffers, rows: usize, cells: usize) -> bool {
-        self.targets[..cells] == other.targets[..cells]
-            && self.priorities[..cells] == other.priorities[..cells]
-            && self.sources[..rows] == other.sources[..rows]
-            && self.records[..rows] == other.records[..rows]
-    }
-
     /// Lets one side translate into the arrays.
     fn translate(&mut self, side: usize, table: &[u8], capacity: usize) -> Translation {
         TRANSLATORS[side](
@@ -178,20 +170,27 @@ fn interleave(
     best
 }
 
-/// What one measured translation gave.
+/// How many tables of one kind take turns.
+const IN_TURN: usize = 16;
+
+/// What some tables of one kind gave: their rows in all, the sides' times for a table on the
+/// average, and what the proved side takes of the tuned one's time where the first of them is
+/// translated again and again.
 struct Measured {
-    answer: Translation,
+    rows: usize,
     times: Times,
+    again: f64,
 }
 
-/// Compares all sides on one table from scribbled arrays, then times them, comparing again.
-fn measure_translation(
-    table: &[u8],
-    capacity: usize,
-    least_rounds: usize,
-    budget: Duration,
-    buffers: &mut Buffers,
-) -> Measured {
+impl Measured {
+    /// The rows of a table on the average.
+    fn average(&self, tables: usize) -> usize {
+        (self.rows + tables / 2) / tables
+    }
+}
+
+/// Compares all sides on one table from scribbled arrays; gives the answer.
+fn compare_translations(table: &[u8], capacity: usize, buffers: &mut Buffers) -> Translation {
     buffers.scribble();
     let answer = buffers.translate(PROVED, table, capacity);
     let expected = buffers.clone();
@@ -204,20 +203,54 @@ fn measure_translation(
             &format!("{answer:?} {other:?}"),
         );
     }
-    let cells = answer.rows * table.get(1).map_or(0, |&letters| letters as usize);
-    let times = interleave(&ALL, least_rounds, budget, |side, repeats| {
-        let mut last = answer;
+    answer
+}
+
+/// Times sides on tables that take turns; gives their times for a table on the average.
+fn time_translations(
+    sides: &[usize],
+    tables: &[Vec<u8>],
+    capacity: usize,
+    effort: Effort,
+    buffers: &mut Buffers,
+) -> Times {
+    let answers: Vec<Translation> = tables
+        .iter()
+        .map(|table| buffers.translate(PROVED, table, capacity))
+        .collect();
+    let mut last = answers.clone();
+    let times = interleave(sides, effort.rounds, effort.case, |side, repeats| {
         let before = Instant::now();
         for _ in 0..repeats {
-            last = buffers.translate(side, black_box(table), black_box(capacity));
+            for (table, answer) in tables.iter().zip(&mut last) {
+                *answer = buffers.translate(side, black_box(table), black_box(capacity));
+            }
         }
         let taken = before.elapsed();
-        let equal = last == answer && buffers.same_rows(&expected, answer.rows, cells);
-        compare(side, equal, &format!("{answer:?} {last:?}"));
+        compare(side, last == answers, "the answers of a round");
         taken
     });
-    compare(PROVED, *buffers == expected, "the arrays after the rounds");
-    Measured { answer, times }
+    times.map(|time| time / tables.len() as f64)
+}
+
+/// Compares all sides on tables of one kind, then times them.
+fn measure_translations(
+    tables: &[Vec<u8>],
+    capacity: usize,
+    effort: Effort,
+    buffers: &mut Buffers,
+) -> Measured {
+    let rows = tables
+        .iter()
+        .map(|table| compare_translations(table, capacity, buffers).rows)
+        .sum();
+    let times = time_translations(&ALL, tables, capacity, effort, buffers);
+    let once = time_translations(&[PROVED, TUNED], &tables[..1], capacity, effort, buffers);
+    Measured {
+        rows,
+        times,
+        again: against(&once, TUNED),
+    }
 }
 
 /// Times judges on one word, comparing every answer.
@@ -310,7 +343,7 @@ impl Range {
 /// Prints the head of a table of translations.
 fn head_of_translations() {
     println!(
-        "{:<34} {:>5} {:>3} {:>10} {:>10} {:>10} {:>7} {:>7} {:>10} {:>9} {:>10} {:>8} {:>8}",
+        "{:<34} {:>6} {:>3} {:>10} {:>10} {:>10} {:>7} {:>5} {:>7} {:>10} {:>9} {:>10} {:>8} {:>8}",
         "case",
         "rows",
         "let",
@@ -318,6 +351,7 @@ fn head_of_translations() {
         "tuned",
         "plain",
         "p/tuned",
+        "again",
         "p/plain",
         "special",
         "p/special",
@@ -328,13 +362,14 @@ fn head_of_translations() {
 }
 
 /// Prints one line of a table of translations.
-fn line_of_translation(case: &str, letters: usize, rows: usize, times: &Times) {
+fn line_of_translation(case: &str, letters: usize, rows: usize, times: &Times, again: Option<f64>) {
     println!(
-        "{case:<34} {rows:>5} {letters:>3} {:>10} {:>10} {:>10} {:>7} {:>7} {:>10} {:>9} {:>10} {:>8} {:>8.1}",
+        "{case:<34} {rows:>6} {letters:>3} {:>10} {:>10} {:>10} {:>7} {:>5} {:>7} {:>10} {:>9} {:>10} {:>8} {:>8.1}",
         shown(times[PROVED]),
         shown(times[TUNED]),
         shown(times[PLAIN]),
         ratio(times, TUNED),
+        again.map_or("-".to_string(), |ratio| format!("{ratio:.2}")),
         ratio(times, PLAIN),
         shown(times[SPECIAL]),
         ratio(times, SPECIAL),
@@ -495,6 +530,18 @@ impl Shape {
         }
         best.1
     }
+}
+
+/// Draws tables of one kind that take turns, each with as many rows as `aim` if it can be.
+fn search_some(
+    shape: &Shape,
+    random: &mut Random,
+    aim: usize,
+    buffers: &mut Buffers,
+) -> Vec<Vec<u8>> {
+    (0..IN_TURN)
+        .map(|_| shape.search(random, aim, buffers))
+        .collect()
 }
 
 /// Draws a word of so many letters.
@@ -661,28 +708,50 @@ fn part_a(random: &mut Random, effort: Effort, buffers: &mut Buffers) {
     );
     println!("    sbIAR_P* 1081, IAR_P* 833 (P: post-processed, *: optimised)");
     println!("    20 to 30 states, 16 letters, 6 pairs, density 0.05, marks shared by state with");
-    println!("    probability 0.2 each; capacity 4,096; sums of each table's smallest time\n");
+    println!(
+        "    probability 0.2 each; capacity 4,096; in each round a side takes all tables, one"
+    );
+    println!("    after the other; sums of each table's smallest time\n");
+    let tables: Vec<Vec<u8>> = (0..effort.tables)
+        .map(|_| draw_paper_table(random))
+        .collect();
+    let answers: Vec<Translation> = tables
+        .iter()
+        .map(|table| compare_translations(table, MOST_ROWS, buffers))
+        .collect();
+    let mut best = vec![[f64::INFINITY; 5]; tables.len()];
+    for round in 0..4 * effort.rounds {
+        for side in ALL {
+            if side == PLAIN && round > 1 {
+                continue;
+            }
+            for ((table, answer), best) in tables.iter().zip(&answers).zip(&mut best) {
+                let before = Instant::now();
+                let given = buffers.translate(side, black_box(table), black_box(MOST_ROWS));
+                best[side] = best[side].min(before.elapsed().as_nanos() as f64);
+                compare(side, given == *answer, &format!("{answer:?} {given:?}"));
+            }
+        }
+    }
     let mut large = Range::default();
     let mut sums = [[0.0; 5]; 3];
     let mut rows = [0; 3];
     let mut counts = [0; 3];
-    for number in 1..=effort.tables {
-        let table = draw_paper_table(random);
-        let measured = measure_translation(&table, MOST_ROWS, 6, Duration::ZERO, buffers);
-        let found = measured.answer.rows;
+    for (place, (answer, times)) in answers.iter().zip(&best).enumerate() {
+        let found = answer.rows;
         let groups = [
             true,
-            measured.answer.number == 0 && found >= LARGE,
-            measured.answer.number == 8,
+            answer.number == 0 && found >= LARGE,
+            answer.number == 8,
         ];
         if groups[1] {
-            let case = format!("table {number}, {found} rows");
-            large.note(against(&measured.times, TUNED), &case);
+            let case = format!("table {}, {found} rows", place + 1);
+            large.note(against(times, TUNED), &case);
         }
         for group in (0..3).filter(|&group| groups[group]) {
             counts[group] += 1;
             rows[group] += found;
-            for (sum, time) in sums[group].iter_mut().zip(&measured.times) {
+            for (sum, time) in sums[group].iter_mut().zip(times) {
                 *sum += time;
             }
         }
@@ -695,7 +764,7 @@ fn part_a(random: &mut Random, effort: Effort, buffers: &mut Buffers) {
     ];
     for group in (0..3).filter(|&group| counts[group] > 0) {
         let name = format!("{} ({})", names[group], counts[group]);
-        line_of_translation(&name, 16, rows[group], &sums[group]);
+        line_of_translation(&name, 16, rows[group], &sums[group], None);
     }
     let fitting = counts[0] - counts[2];
     println!(
@@ -733,9 +802,9 @@ fn shape_for(pairs: usize, aim: usize, letters: usize, percent: usize, shared: b
 
 /// Part (b): tables with as many rows as can be, long loops, many passes, and tiny tables.
 fn part_b(random: &mut Random, effort: Effort, buffers: &mut Buffers) {
-    println!("\n(b) worst cases\n");
+    println!("\n(b) worst cases; {IN_TURN} tables of each kind take turns, rows and times are averages\n");
     head_of_translations();
-    let (mut large, mut small) = (Range::default(), Range::default());
+    let (mut large, mut few, mut small) = (Range::default(), Range::default(), Range::default());
     let aims = [
         (2, 128),
         (3, 384),
@@ -752,19 +821,25 @@ fn part_b(random: &mut Random, effort: Effort, buffers: &mut Buffers) {
             (16, 50, false),
             (16, 20, true),
         ];
-        for (letters, percent, shared) in kinds.into_iter().chain([(2, 20, false), (4, 20, false)])
-        {
+        let fewer = [
+            (2, 20, false),
+            (3, 20, false),
+            (4, 20, false),
+            (8, 20, false),
+        ];
+        for (letters, percent, shared) in kinds.into_iter().chain(fewer) {
             let shape = shape_for(pairs, aim, letters, percent, shared);
-            let table = shape.search(random, aim, buffers);
-            let measured = measure_translation(&table, aim, effort.rounds, effort.case, buffers);
+            let tables = search_some(&shape, random, aim, buffers);
+            let measured = measure_translations(&tables, aim, effort, buffers);
             let by = if shared { "state" } else { "cell" };
             let case = format!("{pairs} pairs, marks 0.{} by {by}", percent / 10);
-            let rows = measured.answer.rows;
+            let rows = measured.average(tables.len());
             if rows >= LARGE {
+                let range = if letters < 4 { &mut few } else { &mut large };
                 let case = format!("{case}, {rows} rows, {letters} letters");
-                large.note(against(&measured.times, TUNED), &case);
+                range.note(against(&measured.times, TUNED), &case);
             }
-            line_of_translation(&case, letters, rows, &measured.times);
+            line_of_translation(&case, letters, rows, &measured.times, Some(measured.again));
         }
     }
     let one = |letters: u8, pairs: u8| {
@@ -781,14 +856,15 @@ fn part_b(random: &mut Random, effort: Effort, buffers: &mut Buffers) {
         ("one state, 6 pairs", one(16, 6), 1),
     ];
     for (name, table, capacity) in tiny {
-        let measured = measure_translation(&table, capacity, effort.rounds, effort.case, buffers);
+        let letters = table[1] as usize;
+        let measured = measure_translations(&[table], capacity, effort, buffers);
         small.note(against(&measured.times, TUNED), name);
-        let (letters, rows) = (table[1] as usize, measured.answer.rows);
-        line_of_translation(name, letters, rows, &measured.times);
+        line_of_translation(name, letters, measured.rows, &measured.times, None);
     }
     println!(
-        "\n    summary (b), translator: largest p/tuned from 500 rows on {}; of tiny tables {}",
+        "\n    summary (b), translator: largest p/tuned from 500 rows on {}; with fewer than 4 letters {}; of tiny tables {}",
         large.largest(),
+        few.largest(),
         small.largest()
     );
 
@@ -933,18 +1009,18 @@ fn part_b(random: &mut Random, effort: Effort, buffers: &mut Buffers) {
 
 /// Part (c): how the times grow with rows and with loops.
 fn part_c(random: &mut Random, effort: Effort, buffers: &mut Buffers) {
-    println!("\n(c) growth: nanoseconds for a cell (row and letter), marks 0.2 by cell\n");
+    println!("\n(c) growth: nanoseconds for a cell (row and letter), marks 0.2 by cell; {IN_TURN} tables of");
+    println!("    each size take turns\n");
     println!(
-        "{:>6} {:>6} {:>8} {:>8} {:>6} {:>8} {:>8} {:>8} {:>8} {:>8} {:>8} {:>9} {:>8} {:>8}",
+        "{:>6} {:>6} {:>8} {:>8} {:>8} {:>8} {:>8} {:>6} {:>8} {:>8} {:>9} {:>8} {:>8}",
         "aim",
         "rows",
         "letters",
-        "states",
-        "pairs",
         "proved",
         "tuned",
         "plain",
         "p/tuned",
+        "again",
         "p/plain",
         "special",
         "p/special",
@@ -972,24 +1048,24 @@ fn part_c(random: &mut Random, effort: Effort, buffers: &mut Buffers) {
                 percent: 20,
                 shared: false,
             };
-            let table = shape.search(random, aim, buffers);
-            let measured = measure_translation(&table, aim, effort.rounds, effort.case, buffers);
-            let rows = measured.answer.rows;
+            let tables = search_some(&shape, random, aim, buffers);
+            let measured = measure_translations(&tables, aim, effort, buffers);
+            let rows = measured.average(tables.len());
             let times = &measured.times;
-            let each = times.map(|time| time / (rows * letters) as f64);
+            let cells = (measured.rows * letters) as f64 / tables.len() as f64;
+            let each = times.map(|time| time / cells);
             let case = format!("{rows} rows, {letters} letters");
             growth.note(each[PROVED], &case);
             if rows >= LARGE {
                 large.note(against(times, TUNED), &case);
             }
             println!(
-                "{aim:>6} {rows:>6} {letters:>8} {:>8} {:>6} {:>8.2} {:>8.2} {:>8.2} {:>8} {:>8} {:>8.2} {:>9} {:>8.2} {:>8}",
-                table[0],
-                table[2],
+                "{aim:>6} {rows:>6} {letters:>8} {:>8.2} {:>8.2} {:>8.2} {:>8} {:>6.2} {:>8} {:>8.2} {:>9} {:>8.2} {:>8}",
                 each[PROVED],
                 each[TUNED],
                 each[PLAIN],
                 ratio(times, TUNED),
+                measured.again,
                 ratio(times, PLAIN),
                 each[SPECIAL],
                 ratio(times, SPECIAL),
@@ -1179,8 +1255,12 @@ fn main() {
         }
     };
     println!("seed {seed}; each time is the smallest of several rounds in which the sides take");
-    println!("turns on the same input; a slice of a round is about a millisecond or one call; the");
+    println!(
+        "turns on the same inputs; a slice of a round is about a millisecond or one call; the"
+    );
     println!("lent arrays are allocated once, shared by all sides and not cleared between calls.");
+    println!("Tables of one kind take turns within a slice, since a table is translated once and");
+    println!("not again and again; again: p/tuned where one table is.");
     println!("proved: the proved library; tuned: the tuned conventional implementation (packed");
     println!("records, early out, good hash; judges with repetition detection); plain: the plain");
     println!(
