@@ -6,15 +6,16 @@
 --     one-shifted        a word with one bit, as a shift makes it
 --     as-bits-below, as-bits-more, as-bits-at     the number whose bits pass a test, one number more, and its bits
 --     bits-determine, bits-are      numbers with the same bits are equal
+--     both-below         two bytes, as one word, have no bit from j on: both are below 2 ^ j
 use mathlib.Core.Path.{_≡_, refl, sym, ap, _∙_}
 use mathlib.Core.Bool.{Bool, true, false, not, _&&_, _||_}
-use Prim.Native.Nat.{ℕ, zero, suc, _+_, _-_, _*_, _/_, _%_, _^_, max, min, _<_}
-use native.Mathlib.Nat.{one-mul, one-le-pow, pow-suc, div-eq-of-lt, zero-div, div-one, zero-add, not-suc-le-zero}
+use Prim.Native.Nat.{ℕ, zero, suc, _+_, _-_, _*_, _/_, _%_, _^_, max, min, _<_, _≤_}
+use native.Mathlib.Nat.{one-mul, one-le-pow, pow-suc, div-eq-of-lt, zero-div, div-one, zero-add, not-suc-le-zero, zero-mul, mod-lt}
 use native.Mathlib.Numerals.{add-one}
 use native.Mathlib.Omega.{arith}
-use lib.Dec.{eqb, ltb, lit<}
-use lib.Bits.{bitAnd, bitOr, and-step, or-step, and-shr, or-shr, and-le-r, or-shifted}
-use lib.Pow.{pow-lt, pow-add, shl-exact, shl-shr, shr-shr}
+use lib.Dec.{eqb, ltb, lit<, eqb·suc-zero}
+use lib.Bits.{bitAnd, bitOr, and-step, or-step, and-shr, or-shr, and-le-r, or-shifted, and-block, and-high}
+use lib.Pow.{pow-lt, pow-add, shl-exact, shl-shr, shr-shr, pow-pos, shr-mod, split}
 use borrow.Author.Tests.{eqb-true, eqb-false, eq-eqb, ne-eqb, ltb-true, ltb-false}
 use Rattle.rules.specs.Basics.{bit, when, asBits}
 use Rattle.rules.proofs.Bools.{by, clash}
@@ -157,3 +158,28 @@ bit-masked q v =
     nothing e j l =
         masked j
         ∙ by (eqb q j) (λ h. rw (h, ← eqb-true q j h, e, bit-none q)) (λ h. rw (h, bit-none j) (by (bit j v) (λ g. rw g) (λ g. rw g)))
+
+-- two bytes as one word: what is left of it by the bits from j on, in both
+high-none : (d j n : ℕ) → n < 2 ^ (d + j) → eqb (bitAnd n (2 ^ (d + j) - 2 ^ j)) 0 ≡ ltb n (2 ^ j)
+high-none d j n l =
+    rw (and-high n d j, shr-mod d j l)
+    (by
+    (ltb n (2 ^ j))
+    (λ e. rw (e, div-eq-of-lt (ltb-true n (2 ^ j) e)) (eq-eqb (0 * 2 ^ j) 0 (zero-mul (2 ^ j))))
+    (λ e. rw e (ne-eqb (n / 2 ^ j * 2 ^ j) 0 (λ h. absurd (omega (arith, ltb-false n (2 ^ j) e, split n j, mod-lt n (pow-pos j)))))))
+
+both-none : (a b : ℕ) → eqb (a * 256 + b) 0 ≡ eqb b 0 && eqb a 0
+both-none zero zero = refl
+both-none zero (suc b) = rw (eqb·suc-zero b) (ne-eqb (0 * 256 + suc b) 0 (λ h. omega arith))
+both-none (suc a) zero = rw (eqb·suc-zero a) (ne-eqb (suc a * 256 + 0) 0 (λ h. omega arith))
+both-none (suc a) (suc b) = rw (eqb·suc-zero b) (ne-eqb (suc a * 256 + suc b) 0 (λ h. omega arith))
+
+pub both-below : (j u v : ℕ) → j ≤ 8 → u < 256 → v < 256
+    → eqb (bitAnd (v * 256 + u) ((256 - 2 ^ j) * 256 + (256 - 2 ^ j))) 0 ≡ ltb u (2 ^ j) && ltb v (2 ^ j)
+both-below j u v l lu lv =
+    let m = 256 - 2 ^ j in
+    let e : (8 - j) + j ≡ 8 = omega arith in
+    let h : (n : ℕ) → n < 256 → eqb (bitAnd n m) 0 ≡ ltb n (2 ^ j) = λ n i. rw e at (high-none (8 - j) j n (rw e i)) in
+    ap (λ (x : ℕ). eqb x 0) (and-block 8 v m u m lu (omega (arith, pow-pos j)))
+    ∙ both-none (bitAnd v m) (bitAnd u m)
+    ∙ rw (h u lu, h v lv)

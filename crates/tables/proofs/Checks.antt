@@ -1,21 +1,26 @@
 -- The checks of sizes and cells.
 --     sizes-fault                  the sizes within their ranges, as tests
+--     mark-word                    both sets of marks of a cell as one word
 --     marks-turn                   what is left to check after one cell more
 --     marks-end                    no cell is left
-use mathlib.Core.Path.{_≡_, refl, sym, _∙_}
+use mathlib.Core.Path.{_≡_, refl, sym, ap, _∙_}
 use mathlib.Core.Bool.{Bool, true, false, not, _&&_, _||_, or-assoc, or-false}
 use mathlib.Core.List.{List}
-use Prim.Native.Nat.{ℕ, zero, suc, _+_, _*_, _<_, _≤_}
+use Prim.Native.Nat.{ℕ, zero, suc, _+_, _-_, _*_, _^_, _<_, _≤_}
 use native.Mathlib.Nat.{add-zero}
 use native.Mathlib.Numerals.{add-one}
 use native.Mathlib.Omega.{arith}
 use lib.Dec.{eqb, ltb, leb, leb·zero, leb·suc-suc, eqb·suc-zero}
+use lib.Bits.{bitAnd}
 use lib.ListN.{length, getD, drop, drop-of-length-le}
+use lib.Pow.{pow-pos}
 use lib.Seq.{drop-cons, getD-drop, drop-drop}
 use borrow.Author.Tests.{leb-true, leb-false, le-ltb, lt-ltb}
-use Rattle.rules.specs.Limits.{maxStates, maxLetters, maxPairs}
+use Rattle.rules.specs.Basics.{pick}
+use Rattle.rules.specs.Limits.{maxStates, maxLetters, maxPairs, noState}
 use Rattle.rules.specs.Tables.{sizesFault, markFault, marksFault}
-use Rattle.rules.proofs.Bools.{by}
+use Rattle.rules.proofs.Bits.{both-below}
+use Rattle.rules.proofs.Bools.{by, or-right}
 
 -- a size at the ends of its range
 at-most : (x y : ℕ) → leb x y ≡ not (ltb y x)
@@ -38,6 +43,22 @@ pub sizes-fault : (n m k : ℕ)
 sizes-fault n m k =
     rw (at-least-one n, at-most n maxStates, at-least-one m, at-most m maxLetters, at-most k maxPairs)
     (none-of (eqb n 0) (ltb maxStates n) (eqb m 0) (ltb maxLetters m) (ltb maxPairs k))
+
+-- both sets of marks as one word, by the bits that it must not have
+bare-word : (k u v : ℕ) → not (ltb u 1 && ltb v 1) ≡ not (ltb u (2 ^ k) && ltb v (2 ^ k)) || not (eqb u 0 && eqb v 0)
+bare-word k zero zero = rw (lt-ltb 0 (2 ^ k) (pow-pos k))
+bare-word k (suc u) v =
+    rw (le-ltb (suc u) 1 (omega arith), eqb·suc-zero u) (sym (or-right (not (ltb (suc u) (2 ^ k) && ltb v (2 ^ k))) true refl))
+bare-word k zero (suc v) =
+    rw (le-ltb (suc v) 1 (omega arith), eqb·suc-zero v) (sym (or-right (not (ltb 0 (2 ^ k) && ltb (suc v) (2 ^ k))) true refl))
+
+pub mark-word : (k x u v : ℕ) → k ≤ maxPairs → u < 256 → v < 256
+    → not (eqb (bitAnd (v * 256 + u) (pick (eqb x noState) 65535 ((256 - 2 ^ k) * 256 + (256 - 2 ^ k)))) 0) ≡ markFault k x u v
+mark-word k x u v l lu lv =
+    by
+    (eqb x noState)
+    (λ e. rw e (ap not (both-below 0 u v (omega arith) lu lv) ∙ bare-word k u v))
+    (λ e. rw e (ap not (both-below k u v (omega arith) lu lv) ∙ sym (or-false (not (ltb u (2 ^ k) && ltb v (2 ^ k))))))
 
 -- every cell: what was found so far, or is still to be found
 pub marks-turn : (k : ℕ) (bad : Bool) (ts ms : List ℕ) (c : ℕ) → c < length ts

@@ -1,12 +1,15 @@
 // The parts of the table check that look at several sizes or at every cell. The loops have no way out but their end: each cell
 // costs the same few operations, with no branch.
+use crate::marks_word;
 use rules::limit::MAX_LETTERS;
 use rules::limit::MAX_PAIRS;
 use rules::limit::MAX_STATES;
 use rules::limit::NO_STATE;
 ghost use mathlib.Core.Path.{_≡_};
 ghost use Prim.Native.Nat.{_*_, _≤_};
+ghost use lib.Dec.{eqb};
 ghost use lib.ListN.{length};
+ghost use Rattle.rules.specs.Basics.{pick};
 ghost use Rattle.rules.specs.Limits.{maxPairs, noState};
 ghost use Rattle.rules.specs.Tables.{sizesFault, targetFault, marksFault};
 
@@ -33,20 +36,26 @@ pub(crate) fn target_fault(targets: &[u8], n: u8) -> bool
     bad
 }
 
-// Some cell has a bit above pair k, or any bit on a missing transition.
+// The bits that the marks of a transition must not have, both sets as one word: all where it is missing, else those above pair k.
+fn barred_bits(target: u8, above: u16) -> u16
+    ensures { λ r. ⌜ r ≡ pick (eqb target noState) 65535 above ⌝ }
+{
+    if target == NO_STATE { 65535 } else { above }
+}
+
+// Some cell has a bit above pair k, or any bit on a missing transition. Both sets of a cell are tested as one word, which is read from
+// its two bytes at once.
 pub(crate) fn marks_fault(targets: &[u8], marks: &[u8], k: u8) -> bool
     requires { ⌜ (2 * length (now targets) ≤ length (now marks)) × (k ≤ maxPairs) ⌝ }
     ensures { λ r. ⌜ r ≡ marksFault k (now (targets .entry)) (now (marks .entry)) ⌝ }
 {
-    let limit = 1u8 << k;
+    let high = 256 - (1u16 << k);
+    let above = high * 256 + high;
     let mut bad = false;
     let mut c = 0;
     while c < targets.len() {
-        let prohibited = marks[2 * c];
-        let required = marks[2 * c + 1];
-        let below = (prohibited < limit) & (required < limit);
-        let bare = (prohibited == 0) & (required == 0);
-        bad = bad | (!below | ((targets[c] == NO_STATE) & !bare));
+        let word = marks_word(marks[2 * c], marks[2 * c + 1]);
+        bad = bad | (word & barred_bits(targets[c], above) != 0);
         c += 1;
     }
     bad

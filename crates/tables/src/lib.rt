@@ -1,6 +1,7 @@
 // Checks a Rabin table, finds its components, and works out once a table what a translation asks of each state again and again.
 // It rests on `rules`: `check_table` and `find_components` keep the promises `CheckSays` and `ComponentsSay` there, and
-// `survey_table` keeps `SurveySays` of this crate, for every byte string and every array; `letters_of` reads the number of letters.
+// `survey_table` keeps `SurveySays` of this crate, for every byte string and every array; `letters_of` reads the number of letters, and
+// `marks_word` joins the marks of a transition.
 use rules::limit::HEADER_SIZE;
 use rules::limit::MAX_STATES;
 use rules::refusal;
@@ -11,6 +12,7 @@ mod survey;
 mod words;
 
 ghost use mathlib.Core.Path.{_≡_};
+ghost use Prim.Native.Nat.{_+_, _*_};
 ghost use Rattle.rules.specs.Says.{CheckSays, ComponentsSay};
 ghost use Rattle.rules.specs.Tables.{tableOf};
 ghost use Rattle.tables.specs.Surveys.{SurveySays};
@@ -23,6 +25,13 @@ pub fn letters_of(table: &[u8]) -> u8
         return 0;
     }
     table[1]
+}
+
+// The two sets of marks of a transition as one word, the required pairs above the prohibited ones: read, joined and tested at once.
+pub fn marks_word(prohibited: u8, required: u8) -> u16
+    ensures { λ r. ⌜ r ≡ required * 256 + prohibited ⌝ }
+{
+    required as u16 * 256 + prohibited as u16
 }
 
 // The table's refusal, 1 to 6 in document 01's order, or 0 where the table is taken.

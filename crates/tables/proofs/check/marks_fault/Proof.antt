@@ -1,45 +1,69 @@
 -- `tables::check::marks_fault` meets its contract. The invariant is that of `target_fault`, over targets and marks together.
 use mathlib.Core.Path.{_≡_, refl, _∙_}
-use mathlib.Core.Bool.{_||_}
-use Prim.Native.Nat.{_-_, _*_, _≤_, _<_}
+use mathlib.Core.Bool.{not, _||_}
+use Prim.Native.Nat.{ℕ, _+_, _-_, _*_, _%_, _^_, _<_, _≤_}
 use native.Mathlib.Omega.{arith}
 use borrow.Author.Needs.{needs}
-use lib.ListN.{length, drop}
-use Rattle.rules.specs.Tables.{marksFault}
-use Rattle.tables.proofs.Checks.{marks-turn, marks-end}
+use lib.Bits.{bitAnd}
+use lib.Dec.{eqb}
+use lib.ListN.{length, drop, getD}
+use lib.Pow.{pow-pos, pow-mono}
+use Rattle.rules.specs.Limits.{maxPairs}
+use Rattle.rules.specs.Tables.{markFault, marksFault}
 use Rattle.rules.proofs.Bits.{one-shifted}
+use Rattle.tables.proofs.Checks.{mark-word, marks-turn, marks-end}
 use Rattle.tables.proofs.check.marks_fault.Statement.{statement}
 use Rattle.tables.proofs.check.marks_fault.Tie as tie
 
+-- the first bit above pair k
+top : (k : ℕ) → k ≤ maxPairs → (1 * 2 ^ k % 2 ^ 16 ≡ 2 ^ k) × (0 < 2 ^ k) × (2 ^ k ≤ 256)
+top k l = (one-shifted 16 k (omega arith), pow-pos k, pow-mono {j = 8} (omega arith))
+
 abbrev Inv-loop : tie.InvT-loop
-Inv-loop targets marks k limit bad₀ c₀ bad c = (c ≤ length targets) × (bad || marksFault k (drop c targets) (drop (2 * c) marks) ≡ marksFault k targets marks)
+Inv-loop targets marks k high above bad₀ c₀ bad c =
+    (c ≤ length targets) × (bad || marksFault k (drop c targets) (drop (2 * c) marks) ≡ marksFault k targets marks)
 
 abbrev μ-loop : tie.MeasureT-loop
-μ-loop targets marks k limit bad₀ c₀ bad c = length targets - c
+μ-loop targets marks k high above bad₀ c₀ bad c = length targets - c
 
-shl-limit : tie.Need-shl-limit Inv-loop μ-loop
-shl-limit c = omega arith
+shl-high : tie.Need-shl-high Inv-loop μ-loop
+shl-high c = omega arith
+
+sub-high : tie.Need-sub-high Inv-loop μ-loop
+sub-high c = let s = c .before .before in omega (arith, top (s .args .k) (s .pre .1))
+
+mul-above : tie.Need-mul-above Inv-loop μ-loop
+mul-above c = let s = c .before .before in omega (arith, top (s .args .k) (s .pre .1))
+
+add-above : tie.Need-add-above Inv-loop μ-loop
+add-above c = let s = c .before .before in omega (arith, top (s .args .k) (s .pre .1))
 
 loop-holds : tie.Need-loop-holds Inv-loop μ-loop
 loop-holds c = (search needs, refl)
 
-mul-prohibited : tie.Need-mul-prohibited Inv-loop μ-loop
-mul-prohibited c = omega arith
+mul-marks-word : tie.Need-mul-marks-word Inv-loop μ-loop
+mul-marks-word c = omega arith
 
-shared-slice-read-prohibited : tie.Need-shared-slice-read-prohibited Inv-loop μ-loop
-shared-slice-read-prohibited c = omega arith
+shared-slice-read-marks-word : tie.Need-shared-slice-read-marks-word Inv-loop μ-loop
+shared-slice-read-marks-word c = omega arith
 
-mul-required : tie.Need-mul-required Inv-loop μ-loop
-mul-required c = omega arith
+mul-marks-word-2 : tie.Need-mul-marks-word-2 Inv-loop μ-loop
+mul-marks-word-2 c = omega arith
 
-add-required : tie.Need-add-required Inv-loop μ-loop
-add-required c = omega arith
+add-marks-word : tie.Need-add-marks-word Inv-loop μ-loop
+add-marks-word c = omega arith
 
-shared-slice-read-required : tie.Need-shared-slice-read-required Inv-loop μ-loop
-shared-slice-read-required c = omega arith
+shared-slice-read-marks-word-2 : tie.Need-shared-slice-read-marks-word-2 Inv-loop μ-loop
+shared-slice-read-marks-word-2 c = omega arith
 
-shared-slice-read-bad : tie.Need-shared-slice-read-bad Inv-loop μ-loop
-shared-slice-read-bad c = omega arith
+marks-word-requires : tie.Need-marks-word-requires Inv-loop μ-loop
+marks-word-requires c κs = search needs
+
+shared-slice-read-barred-bits : tie.Need-shared-slice-read-barred-bits Inv-loop μ-loop
+shared-slice-read-barred-bits c = omega arith
+
+barred-bits-requires : tie.Need-barred-bits-requires Inv-loop μ-loop
+barred-bits-requires c κs = search needs
 
 add-c : tie.Need-add-c Inv-loop μ-loop
 add-c c = omega arith
@@ -49,10 +73,18 @@ loop-less c = omega arith
 
 loop-again : tie.Need-loop-again Inv-loop μ-loop
 loop-again c =
-    let s = c .before .before .before .before .before in
-    let i = c .before .before .before .before .loop in
-    let l : i .c < length (s .args .targets .now) = omega arith in
-    (omega arith, rw (one-shifted 8 (s .args .k) (omega arith)) (marks-turn (s .args .k) (i .bad) (s .args .targets .now) (s .args .marks .now) (i .c) l) ∙ i .inv .1)
+    let s = c .before .before .before .before .before .before .before .before .before in
+    let i = c .before .before .before .before .before .before .loop in
+    let k = s .args .k in
+    let ts = s .args .targets .now in
+    let ms = s .args .marks .now in
+    let x = getD ts (i .c) 0 in
+    let u = getD ms (2 * i .c) 0 in
+    let v = getD ms (2 * i .c + 1) 0 in
+    let bytes = c .before .before .before .before .before .before .before .shared-slice-known2 .given in
+    let cell = mark-word k x u v (s .pre .1) (omega (arith, bytes (2 * i .c))) (omega (arith, bytes (2 * i .c + 1))) in
+    let word : not (eqb (bitAnd (c .before .before .marks-word .result) (c .barred-bits .result)) 0) ≡ markFault k x u v = rw (c .before .before .marks-word .ensures, c .barred-bits .ensures, top k (s .pre .1) .0) cell in
+    (omega arith, rw word (marks-turn k (i .bad) ts ms (i .c) (omega arith)) ∙ i .inv .1)
 
 returns : tie.Need-returns Inv-loop μ-loop
 returns c = marks-end _ _ _ _ _ (c .loop-test .left) (c .before .loop .inv .1)
@@ -63,14 +95,19 @@ marks-fault-spec =
     (tie.spec
     Inv-loop
     μ-loop
-    shl-limit
+    shl-high
+    sub-high
+    mul-above
+    add-above
     loop-holds
-    mul-prohibited
-    shared-slice-read-prohibited
-    mul-required
-    add-required
-    shared-slice-read-required
-    shared-slice-read-bad
+    mul-marks-word
+    shared-slice-read-marks-word
+    mul-marks-word-2
+    add-marks-word
+    shared-slice-read-marks-word-2
+    marks-word-requires
+    shared-slice-read-barred-bits
+    barred-bits-requires
     add-c
     loop-less
     loop-again
