@@ -2,6 +2,7 @@
 // pairs prohibited and the pairs required are kept, so the memory does not grow with the loop, and a pass is read once.
 use crate::Judged;
 use rules::limit::HEADER_SIZE;
+use tables::marks_word;
 ghost use mathlib.Core.Path.{_≡_};
 ghost use mathlib.Core.Bool.{false};
 ghost use Prim.Native.Nat.{_<_, _≤_};
@@ -14,8 +15,8 @@ ghost use Rattle.tables.specs.Parts.{Taken, statesOf, systemIn};
 ghost use Rattle.judge.specs.Judgements.{answerOf};
 ghost use Rattle.judge.specs.Passes.{Met, MetOn, PieceSays, Blank, prohibitedMarks, requiredMarks};
 
-// Where reading a piece led, or no state where it met a missing transition; the letters read; the pairs met as prohibited and as
-// required.
+// Where reading a piece led, or no state where it met a missing transition; the letters read; of a piece read to its end the pairs met
+// as prohibited and as required.
 struct Reading {
     place: usize,
     read: usize,
@@ -23,8 +24,9 @@ struct Reading {
     required: u8,
 }
 
-// Reads a piece from a state on, letter by letter, as far as the transitions lead. A letter's column of the targets is found while the
-// state is still awaited.
+// Reads a piece from a state on, letter by letter, as far as the transitions lead. Between two states stand one product and one read: the
+// targets are cut off the table first, and a letter's column of them while the state is still awaited. Both sets of marks are met as
+// one word.
 fn read_piece(table: &[u8], piece: &[u8], from: usize) -> Reading
     requires { ⌜ Taken (now table) × (strayLetter (tableOf (now table) .letters) (now piece) ≡ false) × (from < statesOf (now table)) ⌝ }
     ensures { λ r. ⌜ PieceSays (systemIn (now (table .entry))) from (now (piece .entry)) (r .place) (r .read) × MetOn (systemIn (now (table .entry))) bit (prohibitedMarks (tableOf (now (table .entry)))) from (now (piece .entry)) (r .place) (r .prohibited) × MetOn (systemIn (now (table .entry))) bit (requiredMarks (tableOf (now (table .entry)))) from (now (piece .entry)) (r .place) (r .required) ⌝ }
@@ -32,30 +34,30 @@ fn read_piece(table: &[u8], piece: &[u8], from: usize) -> Reading
     let n = table[0] as usize;
     let m = table[1] as usize;
     let marks_at = HEADER_SIZE + n * m;
+    let targets = &table[HEADER_SIZE..];
     let mut place = from;
-    let mut prohibited = 0;
-    let mut required = 0;
+    let mut met = 0;
     let mut i = 0;
     while i < piece.len() {
         let letter = piece[i] as usize;
         let first = place * m;
-        let start = HEADER_SIZE + letter;
-        let column = &table[start..];
+        let column = &targets[letter..];
         let target = column[first] as usize;
         if n <= target {
             return Reading {
                 place: target,
                 read: i,
-                prohibited,
-                required,
+                prohibited: 0,
+                required: 0,
             };
         }
         let at = marks_at + 2 * (first + letter);
-        prohibited = prohibited | table[at];
-        required = required | table[at + 1];
+        met = met | marks_word(table[at], table[at + 1]);
         place = target;
         i += 1;
     }
+    let prohibited = (met % 256) as u8;
+    let required = (met / 256) as u8;
     Reading {
         place,
         read: i,
