@@ -1,13 +1,15 @@
 // Judges looped words on Rabin tables and on parity tables, and hands back the rest of a piece of a word.
 // It rests on `tables`, which checks a Rabin table. `judge_rabin`, `judge_parity` and `rest_of` keep the promises `RabinSays`,
 // `ParitySays` and `RestSays` of the rules, for all bytes, arrays, sizes and places.
-use rules::limit::MAX_ROWS;
+use crate::sizes::FEW_ROWS;
+use crate::sizes::SOME_ROWS;
 use rules::limit::MAX_STATES;
 use tables::check_table;
 use tables::letters_of;
 
 mod parity;
 mod rabin;
+mod sizes;
 mod words;
 
 ghost use mathlib.Core.Path.{_≡_};
@@ -15,9 +17,6 @@ ghost use lib.ListN.{length};
 ghost use Rattle.rules.specs.Says.{RabinSays, ParitySays, RestSays};
 ghost use Rattle.judge.specs.Judgements.{answerOf};
 ghost use Rattle.judge.specs.Parts.{restAt};
-
-// Up to this many rows a parity judge's own arrays are small: clearing them for the most rows would take longer than a short word.
-const FEW_ROWS: usize = 64;
 
 // A judge's answer to a looped word, for both kinds of table: the letters read before a missing transition, or a refusal's number.
 pub enum Judged {
@@ -68,31 +67,12 @@ pub fn judge_parity(
         return Judged::Refused(refused);
     }
     if rows <= FEW_ROWS {
-        let mut begun = [0; FEW_ROWS];
-        let mut peaks = [0; FEW_ROWS];
-        return parity::judge_word(
-            rows,
-            letters,
-            targets,
-            priorities,
-            lead,
-            looped,
-            &mut begun,
-            &mut peaks,
-        );
+        return sizes::judge_few(rows, letters, targets, priorities, lead, looped);
     }
-    let mut begun = [0; MAX_ROWS];
-    let mut peaks = [0; MAX_ROWS];
-    parity::judge_word(
-        rows,
-        letters,
-        targets,
-        priorities,
-        lead,
-        looped,
-        &mut begun,
-        &mut peaks,
-    )
+    if rows <= SOME_ROWS {
+        return sizes::judge_some(rows, letters, targets, priorities, lead, looped);
+    }
+    sizes::judge_many(rows, letters, targets, priorities, lead, looped)
 }
 
 // From a place of the word to the end of its piece, as that part of the lead-in or of the loop; past the last letter the empty

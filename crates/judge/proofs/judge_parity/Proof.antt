@@ -3,11 +3,9 @@ use mathlib.Core.Path.{_≡_, sym, ap, _∙_}
 use Prim.Native.Nat.{ℕ}
 use borrow.Author.Needs.{needs}
 use Rattle.rules.specs.Basics.{firstOf}
-use Rattle.rules.specs.Limits.{maxRows}
 use Rattle.rules.specs.Judges.{parityFault, wordFault, parityRun}
 use Rattle.rules.specs.Says.{ParitySays}
-use Rattle.rules.proofs.Filling.{zeros-at}
-use Rattle.rules.proofs.Refusals.{TakenParity, taken-parity, first-zero}
+use Rattle.rules.proofs.Refusals.{first-zero}
 use Rattle.judge.specs.Judgements.{answerOf}
 use Rattle.judge.specs.declared.Judged.{Judged}
 use Rattle.judge.proofs.Checks.{first-same, refused-given, byte-letters}
@@ -32,9 +30,6 @@ module _ (c : tie.Else1) where
   taken : (parityFault (s .args .rows) (s .args .letters) (s .args .targets .now) (s .args .priorities .now) ≡ 0) × (wordFault (s .args .letters) (s .args .lead .now) (s .args .looped .now) ≡ 0)
   taken = first-zero _ _ (sym (refusal (c .before)) ∙ c .if1 .left)
 
-  sizes : TakenParity (s .args .rows) (s .args .letters) (s .args .targets .now) (s .args .priorities .now)
-  sizes = taken-parity _ _ _ _ (taken .0)
-
   -- the run's answer is the judge's
   judged : (r : Judged) → answerOf r ≡ parityRun (s .args .rows) (s .args .letters) (s .args .targets .now) (s .args .priorities .now) (s .args .lead .now) (s .args .looped .now)
       → ParitySays (s .args .rows) (s .args .letters) (s .args .targets .now) (s .args .priorities .now) (s .args .lead .now) (s .args .looped .now) (answerOf r)
@@ -55,34 +50,23 @@ first-fault-requires c κs = search needs
 returns : tie.Need-returns
 returns c = rw (← refusal (c .before)) (refused-given _ _ (c .if1 .taken))
 
-slice-aggregate-judge-word : tie.Need-slice-aggregate-judge-word
-slice-aggregate-judge-word c = search needs
-
-slice-aggregate-judge-word-2 : tie.Need-slice-aggregate-judge-word-2
-slice-aggregate-judge-word-2 c = search needs
-
-judge-word-requires : tie.Need-judge-word-requires
-judge-word-requires c κs =
-    let few = c .before .before in
-    (taken (few .before) .0, taken (few .before) .1, record { enough = few .if2 .taken; none = zeros-at 64 }, few .if2 .taken)
+judge-few-requires : tie.Need-judge-few-requires
+judge-few-requires c κs = let one = c .before in (taken one .0, taken one .1, c .if2 .taken)
 
 returns-2 : tie.Need-returns-2
-returns-2 c = let w = c .before .before in judged (w .before .before .before .before) (w .judge-word .result) (w .judge-word .ensures)
+returns-2 c = judged (c .before .before) (c .judge-few .result) (c .judge-few .ensures)
 
-slice-aggregate-judge-word-3 : tie.Need-slice-aggregate-judge-word-3
-slice-aggregate-judge-word-3 c = search needs
-
-slice-aggregate-judge-word-4 : tie.Need-slice-aggregate-judge-word-4
-slice-aggregate-judge-word-4 c = search needs
-
-judge-word-requires-2 : tie.Need-judge-word-requires-2
-judge-word-requires-2 c κs =
-    let one = c .before .before .before in
-    let most = sizes one .most-rows in
-    (taken one .0, taken one .1, record { enough = most; none = zeros-at maxRows }, most)
+judge-some-requires : tie.Need-judge-some-requires
+judge-some-requires c κs = let one = c .before .before in (taken one .0, taken one .1, c .if3 .taken)
 
 returns-3 : tie.Need-returns-3
-returns-3 c = let w = c .before .before in judged (w .before .before .before .before) (w .judge-word2 .result) (w .judge-word2 .ensures)
+returns-3 c = judged (c .before .before .before) (c .judge-some .result) (c .judge-some .ensures)
+
+judge-many-requires : tie.Need-judge-many-requires
+judge-many-requires c κs = taken (c .before .before)
+
+returns-4 : tie.Need-returns-4
+returns-4 c = judged (c .before .before .before) (c .judge-many .result) (c .judge-many .ensures)
 
 pub judge-parity-spec : {M : Type 1} → statement M
 judge-parity-spec =
@@ -93,11 +77,9 @@ judge-parity-spec =
     word-fault-requires
     first-fault-requires
     returns
-    slice-aggregate-judge-word
-    slice-aggregate-judge-word-2
-    judge-word-requires
+    judge-few-requires
     returns-2
-    slice-aggregate-judge-word-3
-    slice-aggregate-judge-word-4
-    judge-word-requires-2
-    returns-3)
+    judge-some-requires
+    returns-3
+    judge-many-requires
+    returns-4)

@@ -1,0 +1,93 @@
+// The run over a parity table with arrays of its own, in three sizes: to clear arrays for the most rows would take longer than a short word
+// on a table with fewer.
+use crate::Judged;
+use crate::parity::judge_word;
+use rules::limit::MAX_ROWS;
+ghost use mathlib.Core.Path.{_≡_};
+ghost use Prim.Native.Nat.{_≤_};
+ghost use Rattle.rules.specs.Judges.{parityFault, wordFault, parityRun};
+ghost use Rattle.judge.specs.Judgements.{answerOf};
+ghost use Rattle.judge.specs.Sizes.{fewRows, someRows};
+
+// The rows that the small arrays have room for, and the middle ones.
+pub(crate) const FEW_ROWS: usize = 64;
+
+pub(crate) const SOME_ROWS: usize = 1024;
+
+// The answer to a word with nothing to refuse, over few rows.
+pub(crate) fn judge_few(
+    rows: usize,
+    letters: usize,
+    targets: &[u16],
+    priorities: &[u8],
+    lead: &[u8],
+    looped: &[u8],
+) -> Judged
+    requires { ⌜ (parityFault rows letters (now targets) (now priorities) ≡ 0) × (wordFault letters (now lead) (now looped) ≡ 0) × (rows ≤ fewRows) ⌝ }
+    ensures { λ r. ⌜ answerOf r ≡ parityRun rows letters (now (targets .entry)) (now (priorities .entry)) (now (lead .entry)) (now (looped .entry)) ⌝ }
+{
+    let mut begun = [0; FEW_ROWS];
+    let mut peaks = [0; FEW_ROWS];
+    judge_word(
+        rows,
+        letters,
+        targets,
+        priorities,
+        lead,
+        looped,
+        &mut begun,
+        &mut peaks,
+    )
+}
+
+// The same over some rows.
+pub(crate) fn judge_some(
+    rows: usize,
+    letters: usize,
+    targets: &[u16],
+    priorities: &[u8],
+    lead: &[u8],
+    looped: &[u8],
+) -> Judged
+    requires { ⌜ (parityFault rows letters (now targets) (now priorities) ≡ 0) × (wordFault letters (now lead) (now looped) ≡ 0) × (rows ≤ someRows) ⌝ }
+    ensures { λ r. ⌜ answerOf r ≡ parityRun rows letters (now (targets .entry)) (now (priorities .entry)) (now (lead .entry)) (now (looped .entry)) ⌝ }
+{
+    let mut begun = [0; SOME_ROWS];
+    let mut peaks = [0; SOME_ROWS];
+    judge_word(
+        rows,
+        letters,
+        targets,
+        priorities,
+        lead,
+        looped,
+        &mut begun,
+        &mut peaks,
+    )
+}
+
+// The same over as many rows as there may be.
+pub(crate) fn judge_many(
+    rows: usize,
+    letters: usize,
+    targets: &[u16],
+    priorities: &[u8],
+    lead: &[u8],
+    looped: &[u8],
+) -> Judged
+    requires { ⌜ (parityFault rows letters (now targets) (now priorities) ≡ 0) × (wordFault letters (now lead) (now looped) ≡ 0) ⌝ }
+    ensures { λ r. ⌜ answerOf r ≡ parityRun rows letters (now (targets .entry)) (now (priorities .entry)) (now (lead .entry)) (now (looped .entry)) ⌝ }
+{
+    let mut begun = [0; MAX_ROWS];
+    let mut peaks = [0; MAX_ROWS];
+    judge_word(
+        rows,
+        letters,
+        targets,
+        priorities,
+        lead,
+        looped,
+        &mut begun,
+        &mut peaks,
+    )
+}
