@@ -51,13 +51,14 @@ pub(crate) fn check_table(table: &[u8]) -> Result<Rabin<'_>, u8> {
     if wrong {
         return Err(5);
     }
-    let beyond = !((1u32 << *pairs) - 1) as u8;
+    let above = !((1u32 << *pairs) - 1) as u8;
+    let beyond = u16::from_le_bytes([above, above]);
     let misplaced = targets
         .iter()
-        .zip(marks.chunks_exact(2))
-        .fold(0, |bad, (&t, mark)| {
-            let forbidden = if t == NO_TARGET { 255 } else { beyond };
-            bad | ((mark[0] | mark[1]) & forbidden)
+        .zip(marks.as_chunks().0)
+        .fold(0, |bad, (&t, &mark)| {
+            let forbidden = if t == NO_TARGET { 65_535 } else { beyond };
+            bad | (u16::from_le_bytes(mark) & forbidden)
         });
     if misplaced != 0 {
         return Err(6);
