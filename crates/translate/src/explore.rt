@@ -264,44 +264,6 @@ fn explore_many(
     )
 }
 
-// The same, with small arrays for a small capacity: clearing the large ones would take longer than reading few rows.
-fn explore_for(
-    table: &[u8],
-    cells: &[u32],
-    entries: &[u32],
-    capacity: usize,
-    sources: &mut [u8],
-    records: &mut [u32],
-    targets: &mut [u16],
-    priorities: &mut [u8],
-) -> usize
-    requires { ⌜ Taken (now table) × AllCells (tableOf (now table)) (now cells) × Entries (tableOf (now table)) (now entries) × Room (now table) capacity (now targets) (now priorities) (now sources) (now records) ⌝ }
-    ensures { λ r. ⌜ ExploreSays (now (table .entry)) capacity (now (sources .entry)) (now (sources .exit)) (now (records .entry)) (now (records .exit)) (now (targets .entry)) (now (targets .exit)) (now (priorities .entry)) (now (priorities .exit)) r ⌝ }
-{
-    if capacity <= FEW_ROWS {
-        return explore_few(
-            table,
-            cells,
-            entries,
-            capacity,
-            sources,
-            records,
-            targets,
-            priorities,
-        );
-    }
-    explore_many(
-        table,
-        cells,
-        entries,
-        capacity,
-        sources,
-        records,
-        targets,
-        priorities,
-    )
-}
-
 // The orders of so many pairs, of six where there are more.
 fn orders_of(pairs: u8) -> usize
     ensures { λ r. ⌜ r ≤ 720 ⌝ }
@@ -316,18 +278,16 @@ fn orders_of(pairs: u8) -> usize
     }
 }
 
-// How many rows to try first: n states with k pairs have at most n · k! rows. Nothing rests on this but the time that it takes.
-fn tried_first(table: &[u8]) -> usize
+// A table of n states and k pairs has at most n · k! rows: few of them. Nothing rests on this but the time that it takes.
+fn is_small(table: &[u8]) -> bool
     requires { ⌜ Taken (now table) ⌝ }
-    ensures { λ r. ⌜ 0 < r ⌝ }
 {
-    let rows = table[0] as usize * orders_of(table[2]);
-    if rows <= FEW_ROWS { FEW_ROWS } else { MAX_ROWS }
+    table[0] as usize * orders_of(table[2]) <= FEW_ROWS
 }
 
-// The same where fewer rows than the capacity are tried first.
-fn explore_first(
-    first: usize,
+// The same for a table that looks small: the small arrays are tried first, whatever the capacity. Clearing the large ones would take
+// longer than reading all rows.
+fn explore_small(
     table: &[u8],
     cells: &[u32],
     entries: &[u32],
@@ -337,23 +297,23 @@ fn explore_first(
     targets: &mut [u16],
     priorities: &mut [u8],
 ) -> usize
-    requires { ⌜ Taken (now table) × AllCells (tableOf (now table)) (now cells) × Entries (tableOf (now table)) (now entries) × Room (now table) capacity (now targets) (now priorities) (now sources) (now records) × (0 < first) × (first ≤ capacity) ⌝ }
+    requires { ⌜ Taken (now table) × AllCells (tableOf (now table)) (now cells) × Entries (tableOf (now table)) (now entries) × Room (now table) capacity (now targets) (now priorities) (now sources) (now records) × (fewRows ≤ capacity) ⌝ }
     ensures { λ r. ⌜ ExploreSays (now (table .entry)) capacity (now (sources .entry)) (now (sources .exit)) (now (records .entry)) (now (records .exit)) (now (targets .entry)) (now (targets .exit)) (now (priorities .entry)) (now (priorities .exit)) r ⌝ }
 {
-    let found = explore_for(
+    let found = explore_few(
         table,
         cells,
         entries,
-        first,
+        FEW_ROWS,
         sources,
         records,
         targets,
         priorities,
     );
-    if found <= first {
+    if found <= FEW_ROWS {
         return found;
     }
-    explore_for(
+    explore_many(
         table,
         cells,
         entries,
@@ -379,10 +339,8 @@ pub(crate) fn find_rows(
     requires { ⌜ Taken (now table) × AllCells (tableOf (now table)) (now cells) × Entries (tableOf (now table)) (now entries) × Room (now table) capacity (now targets) (now priorities) (now sources) (now records) ⌝ }
     ensures { λ r. ⌜ ExploreSays (now (table .entry)) capacity (now (sources .entry)) (now (sources .exit)) (now (records .entry)) (now (records .exit)) (now (targets .entry)) (now (targets .exit)) (now (priorities .entry)) (now (priorities .exit)) r ⌝ }
 {
-    let first = tried_first(table);
-    if first < capacity {
-        return explore_first(
-            first,
+    if capacity <= FEW_ROWS {
+        return explore_few(
             table,
             cells,
             entries,
@@ -393,7 +351,19 @@ pub(crate) fn find_rows(
             priorities,
         );
     }
-    explore_for(
+    if is_small(table) {
+        return explore_small(
+            table,
+            cells,
+            entries,
+            capacity,
+            sources,
+            records,
+            targets,
+            priorities,
+        );
+    }
+    explore_many(
         table,
         cells,
         entries,
