@@ -13,8 +13,9 @@
 --     rising-at, rising-below  the numbers from 1 on
 --     places-packed, pairs-packed, packed-small     the word of an ordering holds it, and nothing else
 --     moved-packed, priority-packed     a move and a priority are the same for the places of that word
---     marked-masked            a pair is in a set, as a word with its bit alone finds it
+--     marked-shifted, marked-masked      a pair is in a set, as a shift finds it, and as a word with its bit alone
 --     priority-unmarked        the priority where nothing is marked
+--     from-here, from-before   what stands from a position on, and from the place before it
 --     kept-turn, rear-turn, decided-turn, digit-turn     a turn at one position
 --     digit-below              a number with one digit more stays below the next power of ten
 use mathlib.Core.Path.{_≡_, refl, sym, ap, _∙_}
@@ -266,7 +267,7 @@ never-any b [] h = refl
 never-any b (i ∷ o) h = rw (h i, never-any b o h)
 
 -- the bits of a byte, moved up by one so that pair 0 has one too
-marked-shifted : (set i : ℕ) → set < 256 → ltb i 16 && eqb (2 * set / 2 ^ (i % 16) % 2) 1 ≡ isMarked set i
+pub marked-shifted : (set i : ℕ) → set < 256 → ltb i 16 && eqb (2 * set / 2 ^ (i % 16) % 2) 1 ≡ isMarked set i
 marked-shifted set zero l = let e : 2 * set / 1 % 2 ≡ 0 = rw (div-one (2 * set)) (omega arith) in rw e
 marked-shifted set (suc j) l =
     by
@@ -294,17 +295,16 @@ priority-unmarked o = priority-none (marksIn 0 0) o (never-any (marked (marksIn 
 
 -- ---- a turn at position p, whose pair is i
 module _ (o : List ℕ) (p i : ℕ) (within : p ≤ length o) (here : i ≡ getD (0 ∷ o) p 0) where
-  from-here : drop p (0 ∷ o) ≡ i ∷ drop p o
+  pub from-here : drop p (0 ∷ o) ≡ i ∷ drop p o
   from-here = rw here (drop-cons (0 ∷ o) p 0 (omega arith))
 
-  module _ (b : ℕ → Bool) (goes : Bool) (tested : goes ≡ b i) (v w : ℕ) where
-    -- backwards: the word of those that pass behind p, and the word with the pair in front
-    module _ (k : ℕ) (before : suc k ≡ p) where
-      from-before : drop k o ≡ i ∷ drop p o
-      from-before = ap (λ (j : ℕ). drop j (0 ∷ o)) before ∙ from-here
+  pub from-before : (k : ℕ) → suc k ≡ p → drop k o ≡ i ∷ drop p o
+  from-before k before = ap (λ (j : ℕ). drop j (0 ∷ o)) before ∙ from-here
 
-      pub kept-turn : v ≡ packed (keep b (drop p o)) → w ≡ pick goes (i + base * v) v → w ≡ packed (keep b (drop k o))
-      kept-turn e f = f ∙ rw (from-before, e, tested) (by (b i) (λ t. rw t) (λ t. rw t))
+  -- backwards: the word of those that pass behind p, and the word with the pair in front
+  pub kept-turn : (b : ℕ → Bool) (goes : Bool) → goes ≡ b i → (v w k : ℕ) → suc k ≡ p
+      → v ≡ packed (keep b (drop p o)) → w ≡ pick goes (i + base * v) v → w ≡ packed (keep b (drop k o))
+  kept-turn b goes tested v w k before e f = f ∙ rw (from-before k before, e, tested) (by (b i) (λ t. rw t) (λ t. rw t))
 
   -- forwards: what is still to be found behind p, and from p on
   pub decided-turn : (m : Marks) (odd even : Bool) → odd ≡ m .prohibited i → even ≡ m .required i

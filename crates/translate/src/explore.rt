@@ -6,6 +6,7 @@ use crate::effects::write_effects;
 use crate::filing::rows_after;
 use crate::filing::settle;
 use crate::keys::SPAN;
+use crate::positions::move_table;
 use rules::limit::MAX_LETTERS;
 use rules::limit::MAX_ROWS;
 use rules::limit::NO_ROW;
@@ -15,10 +16,10 @@ ghost use lib.ListN.{length, getD};
 ghost use Rattle.rules.specs.Limits.{maxLetters};
 ghost use Rattle.rules.specs.Systems.{cell};
 ghost use Rattle.rules.specs.Tables.{tableOf};
-ghost use Rattle.tables.specs.Parts.{Taken};
+ghost use Rattle.tables.specs.Parts.{Taken, Listed};
 ghost use Rattle.translate.specs.Keys.{sourceIn, wordIn};
 ghost use Rattle.translate.specs.Cells.{cellMarks, cellWord, AllCells, Entries};
-ghost use Rattle.translate.specs.Effects.{IsEffect, EffectsOn};
+ghost use Rattle.translate.specs.Effects.{IsEffect, EffectsOn, moveIn};
 ghost use Rattle.translate.specs.Exploring.{lettersOf, fewRows, Known, LetterSays, RowSays, Room, Empty, ExploreSays};
 
 // The rows for which small arrays of our own are enough, and the slots of their index.
@@ -119,6 +120,7 @@ fn read_row(
     table: &[u8],
     cells: &[u32],
     entries: &[u32],
+    moves: &[u64],
     i: usize,
     n: usize,
     capacity: usize,
@@ -130,14 +132,14 @@ fn read_row(
     targets: &mut [u16],
     priorities: &mut [u8],
 ) -> usize
-    requires { ⌜ Taken (now table) × AllCells (tableOf (now table)) (now cells) × Entries (tableOf (now table)) (now entries) × (i < n) × Known (now table) capacity n (i * lettersOf (now table)) (now keys) (now heads) (now links) (now sources) (now records) (now targets) (now priorities) ⌝ }
+    requires { ⌜ Taken (now table) × AllCells (tableOf (now table)) (now cells) × Entries (tableOf (now table)) (now entries) × Listed 64 moveIn (now moves) × (i < n) × Known (now table) capacity n (i * lettersOf (now table)) (now keys) (now heads) (now links) (now sources) (now records) (now targets) (now priorities) ⌝ }
     ensures { λ r. ⌜ RowSays (now (table .entry)) capacity n i (now (keys .entry)) (now (keys .exit)) (now (heads .exit)) (now (links .exit)) (now (sources .entry)) (now (sources .exit)) (now (records .entry)) (now (records .exit)) (now (targets .entry)) (now (targets .exit)) (now (priorities .entry)) (now (priorities .exit)) r ⌝ }
 {
     let m = table[1] as usize;
     let key = keys[i];
     let first = (key / SPAN) as usize * m;
     let mut effects = [0; MAX_LETTERS as usize];
-    write_effects(cells, first, m, key, &mut effects);
+    write_effects(cells, first, m, key, moves, &mut effects);
     read_letters(
         table,
         cells,
@@ -175,6 +177,7 @@ fn explore(
     requires { ⌜ Taken (now table) × AllCells (tableOf (now table)) (now cells) × Entries (tableOf (now table)) (now entries) × Room (now table) capacity (now targets) (now priorities) (now sources) (now records) × Empty capacity (now keys) (now heads) (now links) ⌝ }
     ensures { λ r. ⌜ ExploreSays (now (table .entry)) capacity (now (sources .entry)) (now (sources .exit)) (now (records .entry)) (now (records .exit)) (now (targets .entry)) (now (targets .exit)) (now (priorities .entry)) (now (priorities .exit)) r ⌝ }
 {
+    let moves = move_table();
     let start = entries[table[3] as usize];
     settle(start, 0, capacity, keys, heads, links, sources, records);
     let mut known = 1;
@@ -184,6 +187,7 @@ fn explore(
             table,
             cells,
             entries,
+            &moves,
             i,
             known,
             capacity,

@@ -14,6 +14,7 @@ mod explore;
 mod filing;
 mod index;
 mod keys;
+mod positions;
 
 ghost use mathlib.Core.Path.{_≡_};
 ghost use Prim.Native.Nat.{_*_, _≤_};

@@ -26,7 +26,7 @@ module _ (c : tie.Start) where
   table = taken-table bytes (c .pre .0)
 
   code : IsKey (tableOf bytes) v
-  code = c .pre .4 .coded (c .args .i) (c .pre .3)
+  code = c .pre .5 .coded (c .args .i) (c .pre .4)
 
   first-cell : sourceIn v * lettersOf bytes < tableOf bytes .states * lettersOf bytes
   first-cell =
@@ -36,39 +36,39 @@ module _ (c : tie.Start) where
   row-cells = row-ends (tableOf bytes .states) (lettersOf bytes) (sourceIn v) (code .is-row .state)
 
 shared-slice-read-m : tie.Need-shared-slice-read-m
-shared-slice-read-m c = omega (arith, table (c .before .before .before .before .before .before .before .before .before .before .before))
+shared-slice-read-m c = omega (arith, table (c .before .before .before .before .before .before .before .before .before .before .before .before))
 
 cast-m : tie.Need-cast-m
-cast-m c = omega (arith, table (c .before .before .before .before .before .before .before .before .before .before .before))
+cast-m c = omega (arith, table (c .before .before .before .before .before .before .before .before .before .before .before .before))
 
 mul-key : tie.Need-mul-key
-mul-key c = let s = c .before .before .before .before .before .before .before .before .before .before .before in omega (arith, s .pre .4 .filed .few, s .pre .4 .filed .most)
+mul-key c = let s = c .before .before .before .before .before .before .before .before .before .before .before .before in omega (arith, s .pre .5 .filed .few, s .pre .5 .filed .most)
 
 slice-read-key : tie.Need-slice-read-key
-slice-read-key c = let s = c .before .before .before .before .before .before .before .before .before .before .before .before in omega (arith, s .pre .4 .filed .few, s .pre .4 .filed .key-room)
+slice-read-key c = let s = c .before .before .before .before .before .before .before .before .before .before .before .before .before in omega (arith, s .pre .5 .filed .few, s .pre .5 .filed .key-room)
 
 cast-first : tie.Need-cast-first
-cast-first c = let s = c .before .before .before .before .before .before .before .before .before .before .before .before in omega (arith, table s, code s .is-row .state)
+cast-first c = let s = c .before .before .before .before .before .before .before .before .before .before .before .before .before in omega (arith, table s, code s .is-row .state)
 
 mul-first : tie.Need-mul-first
-mul-first c = let s = c .before .before .before .before .before .before .before .before .before .before .before .before in omega (arith, table s, first-cell s)
+mul-first c = let s = c .before .before .before .before .before .before .before .before .before .before .before .before .before in omega (arith, table s, first-cell s)
 
 slice-aggregate-write-effects : tie.Need-slice-aggregate-write-effects
 slice-aggregate-write-effects c = search needs
 
 write-effects-requires : tie.Need-write-effects-requires
 write-effects-requires c κs =
-    let s = c .before .before .before .before .before .before .before .before .before .before .before .before .before in
-    (table s .sizes .most-letters, table s .sizes .some-letters, omega (arith, table s, first-cell s), omega (arith, row-cells s, s .pre .1 .enough), omega arith)
+    let s = c .before .before .before .before .before .before .before .before .before .before .before .before .before .before in
+    (table s .sizes .most-letters, table s .sizes .some-letters, omega (arith, table s, first-cell s), omega (arith, row-cells s, s .pre .1 .enough), omega arith, s .pre .3)
 
 slice-aggregate-read-letters : tie.Need-slice-aggregate-read-letters
 slice-aggregate-read-letters c = search needs
 
 read-letters-requires : tie.Need-read-letters-requires
 read-letters-requires c κs =
-    let s = c .before .before .before .before .before .before .before .before .before .before .before .before .before .before .before .before .before .before .before .before .before .before .before in
+    let s = c .before .before .before .before .before .before .before .before .before .before .before .before .before .before .before .before .before .before .before .before .before .before .before .before in
     let w : tie.After-write-effects = c .before .before .before .before .before .before .before .before .before in
-    (s .pre .0, s .pre .1, s .pre .2, s .pre .3, refl, omega (arith, w .write-effects .kept .1 .1 .1 .1 .0), w .write-effects .ensures, s .pre .4)
+    (s .pre .0, s .pre .1, s .pre .2, s .pre .4, refl, omega (arith, w .write-effects .kept .1 .1 .1 .1 .1 .0), w .write-effects .ensures, s .pre .5)
 
 same-length : tie.Need-same-length
 same-length c = search needs

@@ -1,9 +1,9 @@
--- `translate::effects::write_effects` meets its contract: one effect for cells that have the same marks, and each its own for others.
+-- `translate::effects::write_many` meets its contract: one effect for cells that have the same marks, and each its own for others.
 use borrow.Author.Needs.{needs}
 use Rattle.translate.specs.Keys.{wordIn}
 use Rattle.translate.proofs.Alike.{alike-effect}
-use Rattle.translate.proofs.effects.write_effects.Statement.{statement}
-use Rattle.translate.proofs.effects.write_effects.Tie as tie
+use Rattle.translate.proofs.effects.write_many.Statement.{statement}
+use Rattle.translate.proofs.effects.write_many.Tie as tie
 
 same-marks-requires : tie.Need-same-marks-requires
 same-marks-requires c κs = search needs
@@ -43,8 +43,8 @@ same-length-2 c = search needs
 returns-2 : tie.Need-returns-2
 returns-2 c = search needs
 
-pub write-effects-spec : {M : Type 1} → statement M
-write-effects-spec =
+pub write-many-spec : {M : Type 1} → statement M
+write-many-spec =
     tie.close
     (tie.spec
     same-marks-requires

@@ -1,0 +1,18 @@
+-- `translate::positions::shifts_of` meets its contract: the entry of the set is taken apart.
+use native.Mathlib.Omega.{arith}
+use borrow.Author.Needs.{needs}
+use Rattle.records.proofs.ByPositions.{last-small}
+use Rattle.translate.proofs.positions.shifts_of.Statement.{statement}
+use Rattle.translate.proofs.positions.shifts_of.Tie as tie
+
+mul-result : tie.Need-mul-result
+mul-result c = search needs
+
+shared-slice-read-result : tie.Need-shared-slice-read-result
+shared-slice-read-result c = search needs
+
+returns : tie.Need-returns
+returns c = omega (arith, c .before .pre .1 .entry (c .before .args .at) (c .before .pre .0), last-small (c .before .args .at))
+
+pub shifts-of-spec : {M : Type 1} → statement M
+shifts-of-spec = tie.close (tie.spec mul-result shared-slice-read-result returns)
