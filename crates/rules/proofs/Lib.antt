@@ -12,6 +12,7 @@ pub mod Walks
 pub mod Agreement
 pub mod Exploration
 pub mod Arrays
+pub mod Coding
 pub mod Filling
 pub mod Steps
 pub mod Refusals

@@ -1,6 +1,7 @@
 -- Lists as sets of what passes a test, numbers below a bound, the largest of a set.
 --     any-append, any-map          tests over a joined and a mapped list
 --     any-fails                    a test that nothing passes
+--     none-at, fails-at            a test that no place of a list passes
 --     any-turn, any-end            a test over a list that is gone through from the front
 --     any-find, any-intro, any-none     a test over a list of numbers, by its elements
 --     below-find, below-intro, below-same     a test over the numbers below a bound
@@ -34,6 +35,16 @@ any-map b f (x ∷ xs) = ap (λ (c : Bool). b (f x) || c) (any-map b f xs)
 pub any-fails : {A : Type 0} (b : A → Bool) (xs : List A) → ((x : A) → b x ≡ false) → any b xs ≡ false
 any-fails b [] h = refl
 any-fails b (x ∷ xs) h = rw (h x, any-fails b xs h)
+
+-- by the places of a list
+pub none-at : (b : ℕ → Bool) (xs : List ℕ) (i : ℕ) → any b xs ≡ false → i < length xs → b (getD xs i 0) ≡ false
+none-at b [] i h l = absurd (omega arith)
+none-at b (x ∷ xs) zero h l = or-none (b x) (any b xs) h .0
+none-at b (x ∷ xs) (suc i) h l = none-at b xs i (or-none (b x) (any b xs) h .1) (omega arith)
+
+pub fails-at : (b : ℕ → Bool) (xs : List ℕ) → ((i : ℕ) → i < length xs → b (getD xs i 0) ≡ false) → any b xs ≡ false
+fails-at b [] h = refl
+fails-at b (x ∷ xs) h = rw (h 0 (omega arith), fails-at b xs (λ i l. h (suc i) (omega arith)))
 
 -- every element of a list: what was found so far, or is still to be found
 module _ (b : ℕ → Bool) (found : Bool) (xs : List ℕ) (c : ℕ) where

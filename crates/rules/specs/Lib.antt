@@ -6,6 +6,7 @@ pub mod Systems
 pub mod Runs
 pub mod Answers
 pub mod Rows
+pub mod Codings
 pub mod Records
 pub mod Tables
 pub mod Judges

@@ -1,0 +1,48 @@
+-- What marks do to a memory, for each rule, and what is explored.
+--     effectBy rule order marks    the effect: the memory after the move, and span times the priority
+--     IsEffect rule order marks e  e is the effect, and its priority is a byte
+--     keyStep, keyPlan             the rows of a task as keys: a cell's code and the effect of its marks on the memory
+--     SameMarks first m cells      the m cells from `first` on have the same marks
+--     OneEffect e m effects        the first m effects are e
+--     EffectsOn rule order first m cells effects      the effects of those cells on a memory
+use mathlib.Core.Path.{_≡_}
+use mathlib.Core.List.{List}
+use Prim.Native.Nat.{ℕ, _+_, _*_, _/_, _%_, _<_}
+use lib.Dec.{eqb}
+use lib.ListN.{getD}
+use Rattle.rules.specs.Systems.{cell}
+use Rattle.rules.specs.Records.{asTheyStood, moved, priority}
+use Rattle.rules.specs.Rows.{Step, Plan}
+use Rattle.records.specs.Words.{isMarked, marksIn as marksOf, packed, places}
+use Rattle.explore.specs.declared.Rule.{Rule}
+use Rattle.explore.specs.declared.Rule.the-variants.{Pairs}
+use Rattle.explore.specs.declared.Task.{Task}
+use Rattle.explore.specs.Cells.{span, sourceIn, memoryIn, marksIn, stepIn}
+
+abbrev pub effectBy : Rule → ℕ → ℕ → ℕ
+effectBy Pairs order marks =
+    span * priority (marksOf (marks % 256) (marks / 256)) (places order) + packed (moved asTheyStood (isMarked (marks % 256)) (places order))
+
+pub record IsEffect (rule : Rule) (order marks e : ℕ) : Type 0 where
+  pub is : e ≡ effectBy rule order marks
+  pub small : e < 256 * span
+
+abbrev pub keyStep : Task → List ℕ → ℕ → ℕ → Step ℕ
+keyStep t cells v a =
+    let w = getD cells (cell (t .letters) (sourceIn v) a) 0 in
+    stepIn w (effectBy (t .rule) (memoryIn v) (marksIn w))
+
+abbrev pub keyed : ℕ → ℕ → (ℕ → ℕ → Step ℕ) → Plan ℕ
+keyed m first step = record { letters = m; first = first; step = step; same = eqb }
+
+abbrev pub keyPlan : Task → List ℕ → Plan ℕ
+keyPlan t cells = keyed (t .letters) (t .start) (keyStep t cells)
+
+abbrev pub SameMarks : ℕ → ℕ → List ℕ → Type 0
+SameMarks first m cells = (a : ℕ) → a < m → marksIn (getD cells (first + a) 0) ≡ marksIn (getD cells first 0)
+
+abbrev pub OneEffect : ℕ → ℕ → List ℕ → Type 0
+OneEffect e m effects = (a : ℕ) → a < m → getD effects a 0 ≡ e
+
+abbrev pub EffectsOn : Rule → ℕ → ℕ → ℕ → List ℕ → List ℕ → Type 0
+EffectsOn rule order first m cells effects = (a : ℕ) → a < m → IsEffect rule order (marksIn (getD cells (first + a) 0)) (getD effects a 0)

@@ -1,0 +1,162 @@
+-- The exploration: what a task must have, which rows are known, which cells are read, and what is promised.
+--     statesIn m cells             the states that the cells are for
+--     isUnfit t cells c k a b      the letters or the capacity are out of range, the start or a code leads outside the cells, or one of the
+--                                  arrays, for k keys, a targets and b priorities, is too short
+--     Fits m cells v               the cells of the key's state are among the cells
+--     Closed t cells               the letters are in range, and the start and every code lead to keys that fit
+--     Room m c ts ps keys          the capacity c is in range, and the lent arrays have room for as many rows
+--     Read g none rs p ts ps       the cells below p are read: ts has the number of the row to which each leads among rs, `none` where the
+--                                  transition is missing, and ps its priority; over any plan
+--     StepRead x c n p ..          a cell whose step is x has been read; there is no plan here
+--     Known t cells c n p ..       n keys are filed, the cells below p are read
+--     RowSays t cells c n i ..     row i has been read by all letters
+--     Stage t cells c i n ..       the rows below i are read, n are known, and the exploration goes on from here, whatever the capacity
+--     FewStage t cells i n ..      the same with some small index
+--     RowsPart t cells c i .. r    what reading the rows below i leaves, r being known: a stage, or more than c
+--     RowsSay t cells n l c i .. r the same from n known rows on, where all rows were read or more than l are known
+--     FewSay t cells l c i .. r    the same from the first row on, with some small index
+--     ExploresAll t cells c .. r   all rows have been read, or more than c were found
+--     exploredOf t cells c k a b   the answer of an exploration
+--     Leaves x t cells c ..        what the arrays hold after the answer x: the rows, and what was there behind them; after Full the first c
+--                                  rows of each are left open, and only what is behind them is as it was; after Unfit all is as it was
+--     ExploreSays t cells c .. x   an exploration: the answer and the arrays
+use mathlib.Core.Path.{_≡_}
+use mathlib.Core.Bool.{Bool, true, false, _&&_, _||_}
+use mathlib.Core.List.{List}
+use Prim.Native.Nat.{ℕ, suc, _+_, _-_, _*_, _/_, _<_, _≤_}
+use lib.Dec.{eqb, ltb, leb}
+use lib.ListN.{length, getD, set, take}
+use Rattle.rules.specs.Basics.{pick, any}
+use Rattle.rules.specs.Limits.{maxLetters, maxRows, noRow}
+use Rattle.rules.specs.Systems.{cell}
+use Rattle.rules.specs.Rows.{Plan, Step, rowAt, numberOf, targetNumber, foundBy, foundFrom, rowsOf, isFull, allTargets, allPriorities}
+use Rattle.rules.specs.Says.{areShort, over}
+use Rattle.explore.specs.declared.Task.{Task}
+use Rattle.explore.specs.declared.Explored.{Explored}
+use Rattle.explore.specs.declared.Explored.the-variants.{Rows, Full, Unfit}
+use Rattle.explore.specs.Arrays.{Beyond}
+use Rattle.explore.specs.Index.{numberAmong}
+use Rattle.explore.specs.Filing.{Filed, rowsAfter}
+use Rattle.explore.specs.Cells.{sourceIn, strays}
+use Rattle.explore.specs.Effects.{keyPlan}
+
+-- ---- what can be explored
+abbrev pub statesIn : ℕ → List ℕ → ℕ
+statesIn m cells = length cells / m
+
+unfoldable pub isUnfit : Task → List ℕ → ℕ → ℕ → ℕ → ℕ → Bool
+isUnfit t cells c k a b =
+    eqb (t .letters) 0
+    || (ltb maxLetters (t .letters) || ((leb (statesIn (t .letters) cells) (sourceIn (t .start)) || any (strays (statesIn (t .letters) cells)) cells) || areShort c (t .letters) a b k k))
+
+abbrev pub Fits : ℕ → List ℕ → ℕ → Type 0
+Fits m cells v = sourceIn v < statesIn m cells
+
+pub record Closed (t : Task) (cells : List ℕ) : Type 0 where
+  pub some-letters : 0 < t .letters
+  pub most-letters : t .letters ≤ maxLetters
+  pub start : Fits (t .letters) cells (t .start)
+  pub leads : (p : ℕ) → p < length cells → strays (statesIn (t .letters) cells) (getD cells p 0) ≡ false
+
+pub record Room (m c : ℕ) (ts ps keys : List ℕ) : Type 0 where
+  pub some-rows : 1 ≤ c
+  pub most-rows : c ≤ maxRows
+  pub target-room : c * m ≤ length ts
+  pub priority-room : c * m ≤ length ps
+  pub key-room : c ≤ length keys
+
+-- ---- cells and rows that are read
+pub record Read {A : Type 0} (g : Plan A) (none : ℕ) (rs : List A) (p : ℕ) (ts ps : List ℕ) : Type 0 where
+  pub targets : (j a : ℕ) → a < g .letters → cell (g .letters) j a < p → getD ts (cell (g .letters) j a) 0 ≡ targetNumber g none rs (rowAt g rs j) a
+  pub priorities : (j a : ℕ) → a < g .letters → cell (g .letters) j a < p → getD ps (cell (g .letters) j a) 0 ≡ g .step (rowAt g rs j) a .prio
+  -- what is read leads to rows that are known
+  pub closed : (j a : ℕ) → a < g .letters → cell (g .letters) j a < p → g .step (rowAt g rs j) a .there ≡ true
+      → numberOf g (g .step (rowAt g rs j) a .to) rs < length rs
+
+pub record StepRead (x : Step ℕ) (c n p : ℕ) (keys keys′ heads′ links′ ts ts′ ps ps′ : List ℕ) (r : ℕ) : Type 0 where
+  pub count : r ≡ pick (x .there) (rowsAfter n (numberAmong (x .to) n keys)) n
+  pub filed : r ≤ c → Filed c r keys′ heads′ links′
+  pub key-array : r ≤ c → keys′ ≡ pick (x .there) (pick (eqb (numberAmong (x .to) n keys) n) (set keys n (x .to)) keys) keys
+  pub target-array : ts′ ≡ set ts p (pick (x .there) (numberAmong (x .to) n keys) noRow)
+  pub priority-array : ps′ ≡ set ps p (x .prio)
+  pub key-rest : Beyond c keys keys′
+
+pub record Known (t : Task) (cells : List ℕ) (c n p : ℕ) (keys heads links ts ps : List ℕ) : Type 0 where
+  pub filed : Filed c n keys heads links
+  pub fits : (i : ℕ) → i < n → Fits (t .letters) cells (getD keys i 0)
+  pub read : Read (keyPlan t cells) noRow (take n keys) p ts ps
+  pub target-room : c * t .letters ≤ length ts
+  pub priority-room : c * t .letters ≤ length ps
+
+pub record RowSays (t : Task) (cells : List ℕ) (c n i : ℕ) (keys keys′ heads′ links′ ts ts′ ps ps′ : List ℕ) (r : ℕ) : Type 0 where
+  pub known : r ≤ c → Known t cells c r (suc i * t .letters) keys′ heads′ links′ ts′ ps′
+  pub rows : r ≤ c → take r keys′ ≡ foundBy (t .letters) 0 (keyPlan t cells) (getD keys i 0) (take n keys)
+  pub over : c < r → c < length (foundBy (t .letters) 0 (keyPlan t cells) (getD keys i 0) (take n keys))
+  pub longer : n ≤ r
+  pub most : r ≤ n + t .letters
+  pub key-rest : Beyond c keys keys′
+  pub new-rest : r ≤ c → Beyond r keys keys′
+  pub target-rest : Beyond (suc i * t .letters) ts ts′
+  pub priority-rest : Beyond (suc i * t .letters) ps ps′
+
+-- ---- stages of the exploration
+pub record Stage (t : Task) (cells : List ℕ) (c i n : ℕ) (keys heads links ts ps : List ℕ) : Type 0 where
+  pub within : i ≤ n
+  pub known : Known t cells c n (i * t .letters) keys heads links ts ps
+  pub goes-on : (d : ℕ) → n ≤ d → rowsOf (keyPlan t cells) d ≡ foundFrom (suc d - i) i (keyPlan t cells) d (take n keys)
+
+abbrev pub fewRows : ℕ
+fewRows = 64
+
+pub record FewStage (t : Task) (cells : List ℕ) (i n : ℕ) (keys ts ps : List ℕ) : Type 0 where
+  pub heads : List ℕ
+  pub links : List ℕ
+  pub stage : Stage t cells fewRows i n keys heads links ts ps
+
+pub record RowsPart (t : Task) (cells : List ℕ) (c i : ℕ) (keys keys′ heads′ links′ ts ts′ ps ps′ : List ℕ) (r : ℕ) : Type 0 where
+  pub few : i ≤ c
+  pub stage : r ≤ c → Stage t cells c i r keys′ heads′ links′ ts′ ps′
+  pub over : c < r → c < length (rowsOf (keyPlan t cells) c)
+  pub key-rest : Beyond c keys keys′
+  pub new-rest : r ≤ c → Beyond r keys keys′
+  pub target-rest : Beyond (i * t .letters) ts ts′
+  pub priority-rest : Beyond (i * t .letters) ps ps′
+
+pub record RowsSay (t : Task) (cells : List ℕ) (n l c i : ℕ) (keys keys′ heads′ links′ ts ts′ ps ps′ : List ℕ) (r : ℕ) : Type 0 where
+  pub part : RowsPart t cells c i keys keys′ heads′ links′ ts ts′ ps ps′ r
+  pub longer : n ≤ r
+  pub most : r ≤ l + t .letters
+  pub ended : ltb i r && leb r l ≡ false
+
+pub record FewSay (t : Task) (cells : List ℕ) (l c i : ℕ) (keys keys′ ts ts′ ps ps′ : List ℕ) (r : ℕ) : Type 0 where
+  pub heads : List ℕ
+  pub links : List ℕ
+  pub says : RowsSay t cells 1 l c i keys keys′ heads links ts ts′ ps ps′ r
+
+pub record ExploresAll (t : Task) (cells : List ℕ) (c : ℕ) (keys keys′ ts ts′ ps ps′ : List ℕ) (r : ℕ) : Type 0 where
+  pub full : ltb c r ≡ isFull (keyPlan t cells) c
+  pub rows : r ≤ c → take r keys′ ≡ rowsOf (keyPlan t cells) c
+  pub read : r ≤ c → Read (keyPlan t cells) noRow (rowsOf (keyPlan t cells) c) (r * t .letters) ts′ ps′
+  pub key-rest : Beyond c keys keys′
+  pub target-rest : Beyond (c * t .letters) ts ts′
+  pub priority-rest : Beyond (c * t .letters) ps ps′
+  pub new-keys : r ≤ c → Beyond r keys keys′
+  pub new-targets : r ≤ c → Beyond (r * t .letters) ts ts′
+  pub new-priorities : r ≤ c → Beyond (r * t .letters) ps ps′
+
+-- ---- the promise
+abbrev pub exploredOf : Task → List ℕ → ℕ → ℕ → ℕ → ℕ → Explored
+exploredOf t cells c k a b =
+    pick (isUnfit t cells c k a b) Unfit (pick (isFull (keyPlan t cells) c) Full (Rows (length (rowsOf (keyPlan t cells) c))))
+
+abbrev pub Leaves : Explored → Task → List ℕ → ℕ → List ℕ → List ℕ → List ℕ → List ℕ → List ℕ → List ℕ → Type 0
+Leaves (Rows n) t cells c keys keys′ ts ts′ ps ps′ =
+    let g = keyPlan t cells in
+    let rs = rowsOf g c in
+    (keys′ ≡ over rs keys) × (ts′ ≡ over (allTargets g noRow rs) ts) × (ps′ ≡ over (allPriorities g rs) ps)
+Leaves Full t cells c keys keys′ ts ts′ ps ps′ = Beyond c keys keys′ × Beyond (c * t .letters) ts ts′ × Beyond (c * t .letters) ps ps′
+Leaves Unfit t cells c keys keys′ ts ts′ ps ps′ = (keys′ ≡ keys) × (ts′ ≡ ts) × (ps′ ≡ ps)
+
+pub record ExploreSays (t : Task) (cells : List ℕ) (c : ℕ) (keys keys′ ts ts′ ps ps′ : List ℕ) (x : Explored) : Type 0 where
+  pub answer : x ≡ exploredOf t cells c (length keys) (length ts) (length ps)
+  pub arrays : Leaves x t cells c keys keys′ ts ts′ ps ps′

@@ -1,0 +1,109 @@
+// What the marks of a transition do to a memory, worked out for all letters of a row before they are read. Where all of them have the
+// same marks, it is worked out once.
+use crate::Rule;
+use crate::codes::SPAN;
+use crate::codes::marks_of;
+use records::Record;
+ghost use mathlib.Core.Path.{_≡_};
+ghost use mathlib.Core.Bool.{true};
+ghost use Prim.Native.Nat.{_+_, _<_, _≤_};
+ghost use lib.ListN.{length};
+ghost use Rattle.rules.specs.Limits.{maxLetters};
+ghost use Rattle.explore.specs.declared.Rule.the-variants.{Pairs};
+ghost use Rattle.explore.specs.Cells.{span};
+ghost use Rattle.explore.specs.Effects.{IsEffect, SameMarks, OneEffect, EffectsOn};
+
+// The effect by pairs: prohibited ones in the lower byte of the marks, required ones in the upper. It has no branch, and cells side by side
+// become vector code.
+fn effect_by_pairs(memory: u32, marks: u32) -> u32
+    requires { ⌜ (memory < span) × (marks < 65536) ⌝ }
+    ensures { λ r. ⌜ IsEffect Pairs memory marks r ⌝ }
+{
+    let order = Record { word: memory };
+    let prohibited = (marks % 256) as u8;
+    let required = (marks / 256) as u8;
+    let next = order.moved(prohibited);
+    let priority = order.priority(prohibited, required);
+    SPAN * priority as u32 + next.word
+}
+
+// The effect of marks on a memory, by the rule.
+fn effect_of(rule: Rule, memory: u32, marks: u32) -> u32
+    requires { ⌜ (memory < span) × (marks < 65536) ⌝ }
+    ensures { λ r. ⌜ IsEffect rule memory marks r ⌝ }
+{
+    match rule {
+        Rule::Pairs => effect_by_pairs(memory, marks),
+    }
+}
+
+// All cells of a row have the same marks.
+fn same_marks(cells: &[u32], first: usize, m: usize) -> bool
+    requires { ⌜ (0 < m) × (first + m ≤ length (now cells)) ⌝ }
+    ensures { λ r. ⌜ (r ≡ true → SameMarks first m (now (cells .entry))) ⌝ }
+{
+    let marks = marks_of(cells[first]);
+    let mut same = true;
+    let mut a = 0;
+    // the first a cells have these marks, if `same` still holds
+    while a < m {
+        same = same & (marks_of(cells[first + a]) == marks);
+        a += 1;
+    }
+    same
+}
+
+// Writes one effect for all letters.
+fn repeat_effect(effect: u32, m: usize, effects: &mut [u32])
+    requires { ⌜ (m ≤ maxLetters) × (maxLetters ≤ length (now effects)) ⌝ }
+    ensures { λ _. ⌜ OneEffect effect m (now (effects .exit)) ⌝ }
+{
+    let mut a = 0;
+    // the first a effects are this one
+    while a < m {
+        effects[a] = effect;
+        a += 1;
+    }
+}
+
+// Writes the effect of each letter by pairs, letters side by side.
+fn write_by_pairs(memory: u32, cells: &[u32], first: usize, m: usize, effects: &mut [u32])
+    requires { ⌜ (memory < span) × (m ≤ maxLetters) × (first + m ≤ length (now cells)) × (maxLetters ≤ length (now effects)) ⌝ }
+    ensures { λ _. ⌜ EffectsOn Pairs memory first m (now (cells .entry)) (now (effects .exit)) ⌝ }
+{
+    let mut a = 0;
+    // the effects of the first a cells are written
+    while a < m {
+        effects[a] = effect_by_pairs(memory, marks_of(cells[first + a]));
+        a += 1;
+    }
+}
+
+// Writes the effect of each letter: one loop for each rule, since a rule chosen within the loop keeps it from becoming vector code.
+fn write_each(rule: Rule, memory: u32, cells: &[u32], first: usize, m: usize, effects: &mut [u32])
+    requires { ⌜ (memory < span) × (m ≤ maxLetters) × (first + m ≤ length (now cells)) × (maxLetters ≤ length (now effects)) ⌝ }
+    ensures { λ _. ⌜ EffectsOn rule memory first m (now (cells .entry)) (now (effects .exit)) ⌝ }
+{
+    match rule {
+        Rule::Pairs => write_by_pairs(memory, cells, first, m, effects),
+    }
+}
+
+// Writes the effects of the cells of a row on its memory: once for all, or letters side by side.
+pub(crate) fn write_effects(
+    rule: Rule,
+    memory: u32,
+    cells: &[u32],
+    first: usize,
+    m: usize,
+    effects: &mut [u32],
+)
+    requires { ⌜ (memory < span) × (m ≤ maxLetters) × (0 < m) × (first + m ≤ length (now cells)) × (maxLetters ≤ length (now effects)) ⌝ }
+    ensures { λ _. ⌜ EffectsOn rule memory first m (now (cells .entry)) (now (effects .exit)) ⌝ }
+{
+    if same_marks(cells, first, m) {
+        repeat_effect(effect_of(rule, memory, marks_of(cells[first])), m, effects);
+    } else {
+        write_each(rule, memory, cells, first, m, effects);
+    }
+}

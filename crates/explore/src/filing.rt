@@ -1,0 +1,40 @@
+// Files keys, with their index.
+use crate::index::Found;
+use crate::index::find_key;
+use crate::index::index_key;
+ghost use mathlib.Core.Path.{_≡_};
+ghost use Prim.Native.Nat.{_≤_};
+ghost use Rattle.rules.specs.Limits.{maxRows};
+ghost use Rattle.explore.specs.Filing.{Filed, rowsAfter, Settles};
+
+// The number of a key among n. A key that is absent is filed, if there is room, and has the number n.
+pub(crate) fn settle(
+    key: u32,
+    n: usize,
+    capacity: usize,
+    keys: &mut [u32],
+    heads: &mut [u16],
+    links: &mut [u16],
+) -> usize
+    requires { ⌜ Filed capacity n (now keys) (now heads) (now links) ⌝ }
+    ensures { λ r. ⌜ Settles capacity key n (now (keys .entry)) (now (keys .exit)) (now (heads .exit)) (now (links .exit)) r ⌝ }
+{
+    let found = find_key(key, n, keys, heads, links);
+    let Found::At(number) = found else {
+        if capacity <= n {
+            return n;
+        }
+        keys[n] = key;
+        index_key(key, n, heads, links);
+        return n;
+    };
+    number
+}
+
+// How many keys are filed when the one of this number has been settled among n.
+pub(crate) fn rows_after(n: usize, number: usize) -> usize
+    requires { ⌜ n ≤ maxRows ⌝ }
+    ensures { λ r. ⌜ r ≡ rowsAfter n number ⌝ }
+{
+    if number == n { n + 1 } else { n }
+}

@@ -1,0 +1,305 @@
+// The exploration: rows are read by number, letters rising within each, and each key is filed as it is found. Every cell of the lent
+// arrays is written once, as it is read.
+use crate::Task;
+use crate::codes::CROSSING;
+use crate::codes::INSIDE;
+use crate::codes::SPAN;
+use crate::codes::moved_key;
+use crate::effects::write_effects;
+use crate::filing::rows_after;
+use crate::filing::settle;
+use crate::index::index_keys;
+use rules::limit::MAX_LETTERS;
+use rules::limit::MAX_ROWS;
+use rules::limit::NO_ROW;
+ghost use mathlib.Core.Path.{_≡_};
+ghost use mathlib.Core.Bool.{false};
+ghost use Prim.Native.Nat.{_+_, _*_, _<_, _≤_};
+ghost use lib.Dec.{ltb};
+ghost use lib.ListN.{length, getD};
+ghost use Rattle.rules.specs.Limits.{maxLetters};
+ghost use Rattle.explore.specs.Cells.{span, sourceIn, memoryIn, crossingKind, stepIn};
+ghost use Rattle.explore.specs.Effects.{EffectsOn};
+ghost use Rattle.explore.specs.Filing.{Filed};
+ghost use Rattle.explore.specs.Exploring.{fewRows, StepRead, Closed, Known, RowSays, Room, Stage, FewStage, RowsSay, FewSay, ExploresAll};
+
+// The rows of a small index, and its slots. While few rows are known, clearing the large one would take longer than reading them.
+const FEW_ROWS: usize = 64;
+
+const FEW_SLOTS: usize = 128;
+
+// As long as no more rows are known, a row leads to no more than the small index has room for.
+const FEW_LIMIT: usize = FEW_ROWS - MAX_LETTERS as usize;
+
+// The slots of the large index.
+const SLOTS: usize = 16384;
+
+// How far an exploration has come: the rows below `row` are read, and so many are known.
+pub(crate) struct Progress {
+    pub row: usize,
+    pub known: usize,
+}
+
+// The key to which the transition of a code leads that is there.
+fn next_key(code: u32, effect: u32) -> u32
+    requires { ⌜ ltb code crossingKind ≡ false ⌝ }
+    ensures { λ r. ⌜ r ≡ stepIn code effect .to ⌝ }
+{
+    if code < INSIDE {
+        return code % CROSSING;
+    }
+    moved_key(code, effect % SPAN)
+}
+
+// The priority of the transition of a code that is there.
+fn priority_of(code: u32, effect: u32) -> u8
+    requires { ⌜ (ltb code crossingKind ≡ false) × (effect < 256 * span) ⌝ }
+    ensures { λ r. ⌜ r ≡ stepIn code effect .prio ⌝ }
+{
+    if code < INSIDE {
+        return 1;
+    }
+    (effect / SPAN) as u8
+}
+
+// Reads a cell, number p of the parity table, whose code and effect are given, and gives how many rows are known then.
+fn read_cell(
+    code: u32,
+    effect: u32,
+    p: usize,
+    n: usize,
+    capacity: usize,
+    keys: &mut [u32],
+    heads: &mut [u16],
+    links: &mut [u16],
+    targets: &mut [u16],
+    priorities: &mut [u8],
+) -> usize
+    requires { ⌜ Filed capacity n (now keys) (now heads) (now links) × (effect < 256 * span) × (p < length (now targets)) × (p < length (now priorities)) ⌝ }
+    ensures { λ r. ⌜ StepRead (stepIn code effect) capacity n p (now (keys .entry)) (now (keys .exit)) (now (heads .exit)) (now (links .exit)) (now (targets .entry)) (now (targets .exit)) (now (priorities .entry)) (now (priorities .exit)) r ⌝ }
+{
+    if code < CROSSING {
+        targets[p] = NO_ROW;
+        priorities[p] = 0;
+        return n;
+    }
+    let number = settle(next_key(code, effect), n, capacity, keys, heads, links);
+    targets[p] = number as u16;
+    priorities[p] = priority_of(code, effect);
+    rows_after(n, number)
+}
+
+// Reads row i by all letters, whose effects are given, as long as there is room, and gives how many rows are known then.
+fn read_cells(
+    task: Task,
+    cells: &[u32],
+    first: usize,
+    effects: &[u32],
+    i: usize,
+    n: usize,
+    capacity: usize,
+    keys: &mut [u32],
+    heads: &mut [u16],
+    links: &mut [u16],
+    targets: &mut [u16],
+    priorities: &mut [u8],
+) -> usize
+    requires { ⌜ Closed task (now cells) × (i < n) × (first ≡ sourceIn (getD (now keys) i 0) * task .letters) × (maxLetters ≤ length (now effects)) × EffectsOn (task .rule) (memoryIn (getD (now keys) i 0)) first (task .letters) (now cells) (now effects) × Known task (now cells) capacity n (i * task .letters) (now keys) (now heads) (now links) (now targets) (now priorities) ⌝ }
+    ensures { λ r. ⌜ RowSays task (now (cells .entry)) capacity n i (now (keys .entry)) (now (keys .exit)) (now (heads .exit)) (now (links .exit)) (now (targets .entry)) (now (targets .exit)) (now (priorities .entry)) (now (priorities .exit)) r ⌝ }
+{
+    let start = i * task.letters;
+    let mut known = n;
+    let mut a = 0;
+    // row i is read by the letters below a
+    while (a < task.letters) & (known <= capacity) {
+        known = read_cell(
+            cells[first + a],
+            effects[a],
+            start + a,
+            known,
+            capacity,
+            keys,
+            heads,
+            links,
+            targets,
+            priorities,
+        );
+        a += 1;
+    }
+    known
+}
+
+// Reads row i by all letters, as long as there is room, and gives how many rows are known then.
+fn read_row(
+    task: Task,
+    cells: &[u32],
+    i: usize,
+    n: usize,
+    capacity: usize,
+    keys: &mut [u32],
+    heads: &mut [u16],
+    links: &mut [u16],
+    targets: &mut [u16],
+    priorities: &mut [u8],
+) -> usize
+    requires { ⌜ Closed task (now cells) × (i < n) × Known task (now cells) capacity n (i * task .letters) (now keys) (now heads) (now links) (now targets) (now priorities) ⌝ }
+    ensures { λ r. ⌜ RowSays task (now (cells .entry)) capacity n i (now (keys .entry)) (now (keys .exit)) (now (heads .exit)) (now (links .exit)) (now (targets .entry)) (now (targets .exit)) (now (priorities .entry)) (now (priorities .exit)) r ⌝ }
+{
+    let rule = task.rule;
+    let m = task.letters;
+    let key = keys[i];
+    let first = (key / SPAN) as usize * m;
+    let mut effects = [0; MAX_LETTERS as usize];
+    write_effects(rule, key % SPAN, cells, first, m, &mut effects);
+    read_cells(
+        task,
+        cells,
+        first,
+        &effects,
+        i,
+        n,
+        capacity,
+        keys,
+        heads,
+        links,
+        targets,
+        priorities,
+    )
+}
+
+// Reads rows from number `row` on, where n are known, until all are read or more than `limit` are known. More than the capacity may be
+// known then, and that is the end.
+fn read_rows(
+    task: Task,
+    cells: &[u32],
+    row: usize,
+    n: usize,
+    limit: usize,
+    capacity: usize,
+    keys: &mut [u32],
+    heads: &mut [u16],
+    links: &mut [u16],
+    targets: &mut [u16],
+    priorities: &mut [u8],
+) -> Progress
+    requires { ⌜ Closed task (now cells) × (limit ≤ capacity) × (n ≤ limit + task .letters) × Stage task (now cells) capacity row n (now keys) (now heads) (now links) (now targets) (now priorities) ⌝ }
+    ensures { λ r. ⌜ RowsSay task (now (cells .entry)) n limit capacity (r .row) (now (keys .entry)) (now (keys .exit)) (now (heads .exit)) (now (links .exit)) (now (targets .entry)) (now (targets .exit)) (now (priorities .entry)) (now (priorities .exit)) (r .known) ⌝ }
+{
+    let mut known = n;
+    let mut i = row;
+    // the rows below i are read
+    while (i < known) & (known <= limit) {
+        known = read_row(
+            task,
+            cells,
+            i,
+            known,
+            capacity,
+            keys,
+            heads,
+            links,
+            targets,
+            priorities,
+        );
+        i += 1;
+    }
+    Progress { row: i, known }
+}
+
+// Reads rows from the first one on, with a small index.
+fn read_few(
+    task: Task,
+    cells: &[u32],
+    limit: usize,
+    capacity: usize,
+    keys: &mut [u32],
+    targets: &mut [u16],
+    priorities: &mut [u8],
+) -> Progress
+    requires { ⌜ Closed task (now cells) × Room (task .letters) capacity (now targets) (now priorities) (now keys) × (capacity ≤ fewRows) × (limit ≤ capacity) ⌝ }
+    ensures { λ r. ⌜ FewSay task (now (cells .entry)) limit capacity (r .row) (now (keys .entry)) (now (keys .exit)) (now (targets .entry)) (now (targets .exit)) (now (priorities .entry)) (now (priorities .exit)) (r .known) ⌝ }
+{
+    let mut heads = [0; FEW_SLOTS];
+    let mut links = [0; FEW_ROWS];
+    settle(task.start, 0, capacity, keys, &mut heads, &mut links);
+    read_rows(
+        task,
+        cells,
+        0,
+        1,
+        limit,
+        capacity,
+        keys,
+        &mut heads,
+        &mut links,
+        targets,
+        priorities,
+    )
+}
+
+// Reads the rows from number `row` on, where n are known, with a large index, and gives how many there are, or that there are more than
+// the capacity.
+fn read_many(
+    task: Task,
+    cells: &[u32],
+    row: usize,
+    n: usize,
+    capacity: usize,
+    keys: &mut [u32],
+    targets: &mut [u16],
+    priorities: &mut [u8],
+) -> usize
+    requires { ⌜ Closed task (now cells) × Room (task .letters) capacity (now targets) (now priorities) (now keys) × (fewRows ≤ capacity) × FewStage task (now cells) row n (now keys) (now targets) (now priorities) ⌝ }
+    ensures { λ r. ⌜ ExploresAll task (now (cells .entry)) capacity (now (keys .entry)) (now (keys .exit)) (now (targets .entry)) (now (targets .exit)) (now (priorities .entry)) (now (priorities .exit)) r × (n ≤ r) ⌝ }
+{
+    let mut heads = [0; SLOTS];
+    let mut links = [0; MAX_ROWS];
+    index_keys(n, keys, &mut heads, &mut links);
+    let all = read_rows(
+        task,
+        cells,
+        row,
+        n,
+        capacity,
+        capacity,
+        keys,
+        &mut heads,
+        &mut links,
+        targets,
+        priorities,
+    );
+    all.known
+}
+
+// Reads all rows and gives how many there are, or that there are more than the capacity. A small index serves as long as it surely has
+// room for the rows that the next one leads to.
+pub(crate) fn explore(
+    task: Task,
+    cells: &[u32],
+    capacity: usize,
+    keys: &mut [u32],
+    targets: &mut [u16],
+    priorities: &mut [u8],
+) -> usize
+    requires { ⌜ Closed task (now cells) × Room (task .letters) capacity (now targets) (now priorities) (now keys) ⌝ }
+    ensures { λ r. ⌜ ExploresAll task (now (cells .entry)) capacity (now (keys .entry)) (now (keys .exit)) (now (targets .entry)) (now (targets .exit)) (now (priorities .entry)) (now (priorities .exit)) r ⌝ }
+{
+    if capacity <= FEW_ROWS {
+        let all = read_few(task, cells, capacity, capacity, keys, targets, priorities);
+        return all.known;
+    }
+    let few = read_few(task, cells, FEW_LIMIT, FEW_ROWS, keys, targets, priorities);
+    if few.row == few.known {
+        return few.known;
+    }
+    read_many(
+        task,
+        cells,
+        few.row,
+        few.known,
+        capacity,
+        keys,
+        targets,
+        priorities,
+    )
+}
