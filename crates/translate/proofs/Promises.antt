@@ -1,14 +1,13 @@
--- From what the translation found to what it promises: one law for each return.
---     tooShort bs c a b d e    the capacity c or one of the lent arrays is out of range, for the table that the bytes say
---     has-room                 what holds where nothing is too short
---     room-kept                the exploration leaves the arrays as long as they were
---     kept-few                 no more rows are kept than there is room for
+-- From what the exploration found to what the translator promises.
 --     survey-fault             with an entry for each state that a table can have, a survey refuses nothing but the table
 --     survey-listed            what a survey leaves of a table that is taken, the states' entries by place
+--     tooShort bs c a b d e    the capacity c or one of the lent arrays is out of range, for the table that the bytes say
+--     codes-cut                the codes at the front of an array are the table's
+--     has-room                 what holds where nothing is too short
+--     kept-few, kept-sources   no more rows are kept than there is room for, and their source states are bytes
 --     translate-refused        the table's own refusal
 --     translate-short          the capacity or an array out of range
---     translate-full           more rows than the capacity
---     translate-done           done
+--     translate-explored       the rows were looked for, and the arrays cleared behind those that are kept
 --     promised                 both promises, from the first
 use mathlib.Core.Path.{_≡_, refl, sym, ap, _∙_}
 use mathlib.Core.Bool.{Bool, true, false, _||_}
@@ -17,68 +16,40 @@ use Prim.Native.Nat.{ℕ, zero, suc, _-_, _*_, _<_, _≤_}
 use native.Mathlib.Nat.{zero-mul, mul-le-mul-right}
 use native.Mathlib.Omega.{arith}
 use lib.Dec.{eqb, eqb·suc-zero, ltb, leb}
-use lib.ListN.{length, getD, replicate, length-append, length-replicate, length-map, List·getD-append}
-use lib.Seq.{ext-getD}
+use lib.ListN.{length, getD, take, replicate, length-append, length-replicate, length-map, List·getD-append}
+use lib.Seq.{getD-take, length-take-le}
 use borrow.Author.Tests.{eqb-false, ne-eqb, ltb-true, ltb-false, lt-ltb, le-ltb}
-use Rattle.rules.specs.Basics.{pick, firstOf, when, tabulate, joined}
+use Rattle.rules.specs.Basics.{pick, firstOf, when, tabulate}
+use Rattle.rules.specs.Codings.{Codes}
 use Rattle.rules.specs.Limits.{maxStates, maxRows, headerSize, noState, noRow}
 use Rattle.rules.specs.Refusals as Refusal
-use Rattle.rules.specs.Systems.{cell}
 use Rattle.rules.specs.Records.{decimal}
-use Rattle.rules.specs.Rows.{targetNumber}
-use Rattle.rules.specs.Tables.{tableOf, tableFault, sizesFault, tableLength, targetFault, marksFault}
+use Rattle.rules.specs.Rows.{Row, Plan, rowsOf, isFull, allTargets, allPriorities}
+use Rattle.rules.specs.Tables.{Table, tableOf, tableFault, sizesFault, tableLength, targetFault, marksFault, tablePlan}
 use Rattle.rules.specs.Claims.{tableRows, targets, priorities, sourceStates, recordNumbers}
 use Rattle.rules.specs.Says.{areShort, translateFault, over, padded, afterwards, TranslateSays, TranslationAgrees}
 use Rattle.rules.proofs.Bools.{by, or-none}
-use Rattle.rules.proofs.Arrays.{tabulate-length, tabulate-at, cell-split, cells-length, cells-at, mapped-at}
-use Rattle.rules.proofs.Filling.{filled-over, zeros-at}
-use Rattle.rules.proofs.Refusals.{taken-table}
+use Rattle.rules.proofs.Arrays.{getD-any, cells-length, mapped-at}
+use Rattle.rules.proofs.Coding.{all-at, row-coded, rows-coded, rows-good, full-coded, targets-coded, priorities-coded}
+use Rattle.rules.proofs.Filling.{over-front, over-rest, over-length, over-is, zeros-at}
+use Rattle.rules.proofs.Refusals.{TakenTable, taken-table}
 use Rattle.rules.proofs.Demands.{says-agrees}
 use Rattle.tables.specs.Parts.{Taken, statesOf, Listed}
 use Rattle.tables.specs.Surveys.{surveyFault}
 use Rattle.tables.proofs.Surveying.{listed}
-use Rattle.translate.specs.Arrays.{Beyond, Cleared, RowsCleared}
-use Rattle.translate.specs.Exploring.{planIn, lettersOf, Room, ExploreSays, keptRows}
-
--- ---- room in the lent arrays
-abbrev pub tooShort : List ℕ → ℕ → List ℕ → List ℕ → List ℕ → List ℕ → Bool
-tooShort bs c a b d e = areShort c (lettersOf bs) (length a) (length b) (length d) (length e)
-
-pub has-room : (bs : List ℕ) (c : ℕ) (a b d e : List ℕ) → tooShort bs c a b d e ≡ false → Room bs c a b d e
-has-room bs c a b d e h =
-    let k = c * lettersOf bs in
-    let numbers = ltb (length e) c in
-    let states = ltb (length d) c || numbers in
-    let priorities = ltb (length b) k || states in
-    let targets = ltb (length a) k || priorities in
-    let p = or-none (eqb c 0) (ltb maxRows c || targets) h in
-    let q = or-none (ltb maxRows c) targets (p .1) in
-    let r = or-none (ltb (length a) k) priorities (q .1) in
-    let s = or-none (ltb (length b) k) states (r .1) in
-    let t = or-none (ltb (length d) c) numbers (s .1) in
-    record {
-      some-rows = omega (arith, eqb-false c 0 (p .0));
-      most-rows = ltb-false maxRows c (q .0);
-      target-room = ltb-false (length a) k (r .0);
-      priority-room = ltb-false (length b) k (s .0);
-      state-room = ltb-false (length d) c (t .0);
-      number-room = ltb-false (length e) c (t .1);
-    }
-
-pub room-kept : {bs : List ℕ} {c r : ℕ} {a a′ b b′ d d′ e e′ : List ℕ} → Room bs c a b d e → ExploreSays bs c d d′ e e′ a a′ b b′ r → Room bs c a′ b′ d′ e′
-room-kept room found =
-    record {
-      some-rows = room .some-rows;
-      most-rows = room .most-rows;
-      target-room = rw (found .target-rest .size) (room .target-room);
-      priority-room = rw (found .priority-rest .size) (room .priority-room);
-      state-room = rw (found .state-rest .size) (room .state-room);
-      number-room = rw (found .number-rest .size) (room .number-room);
-    }
-
--- no more rows are kept than there is room for
-pub kept-few : (c r : ℕ) → keptRows c r ≤ c
-kept-few c r = by (ltb c r) (λ e. rw e (omega arith)) (λ e. rw e (ltb-false c r e))
+use Rattle.tables.proofs.Cells.{cell-within}
+use Rattle.explore.specs.declared.Explored.{Explored}
+use Rattle.explore.specs.declared.Explored.the-variants.{Rows, Full, Unfit}
+use Rattle.explore.specs.Arrays.{Beyond}
+use Rattle.explore.specs.Cells.{sourceIn}
+use Rattle.explore.specs.Effects.{keyPlan}
+use Rattle.explore.specs.Exploring.{Leaves, ExploreSays}
+use Rattle.explore.proofs.Rests.{beyond-then, beyond-wider}
+use Rattle.translate.specs.Arrays.{Cleared, RowsCleared}
+use Rattle.translate.specs.Keys.{keyRow, IsKey}
+use Rattle.translate.specs.Cells.{taskOf, AllCodes, TableCodes}
+use Rattle.translate.specs.Rows.{TableExplored, Unpacked, refusalOf, rowsKept}
+use Rattle.translate.proofs.Coding.{table-codes, table-fit}
 
 -- ---- refusals
 when-below : {k : ℕ} (b : Bool) (n : ℕ) → n ≤ k → when b n ≤ k
@@ -112,12 +83,12 @@ pub survey-fault : (bs : List ℕ) → surveyFault bs maxStates maxStates ≡ ta
 survey-fault bs =
     first-only (tableFault bs) _ (λ z. rw (le-ltb maxStates (tableOf bs .states) (taken-table bs z .sizes .most-states)))
 
--- ---- arrays
 pub survey-listed : (bs : List ℕ) (g : ℕ → ℕ) (old xs : List ℕ) (r : ℕ) → Taken bs → r ≡ 0 → length xs ≡ maxStates
     → xs ≡ pick (eqb r 0) (over (tabulate (statesOf bs) 0 g) old) old → Listed (statesOf bs) g xs
 survey-listed bs g old xs r taken z size e =
     listed (statesOf bs) g old xs (omega (arith, taken-table bs taken .sizes .most-states)) (rw z at e)
 
+-- ---- arrays
 zeros-behind : (xs : List ℕ) (j i : ℕ) → length xs ≤ i → getD (xs ++ replicate j 0) i 0 ≡ 0
 zeros-behind [] j i l = zeros-at j i
 zeros-behind (x ∷ xs) j zero l = absurd (omega arith)
@@ -127,114 +98,212 @@ zeros-behind (x ∷ xs) j (suc i) l = zeros-behind xs j i (omega arith)
 padded-is : {n k : ℕ} {old mid new : List ℕ} (xs : List ℕ) → length xs ≡ n → n ≤ k → k ≤ length old → Beyond k old mid → Cleared n k mid new
     → ((i : ℕ) → i < n → getD mid i 0 ≡ getD xs i 0) → new ≡ padded k xs old
 padded-is {n} {k} {old} {mid} {new} xs size few room rest clear front =
-    filled-over at k old new room (record { size = clear .size ∙ rest .size; done = below; rest = λ i b. clear .rest i b ∙ rest .same i b })
-    ∙ rw in-order
+    over-is (xs ++ zeros) old new (omega (arith, all)) (clear .size ∙ rest .size) (λ i b. below i (omega (arith, all)))
+    (λ i b. let l : k ≤ i = omega (arith, all) in clear .rest i l ∙ rest .same i l)
   where
     zeros : List ℕ
     zeros = replicate (k - length xs) 0
 
-    at : ℕ → ℕ
-    at i = getD (xs ++ zeros) i 0
+    all : length (xs ++ zeros) ≡ k
+    all = simp (length-append, length-replicate) (omega arith)
 
-    below : (i : ℕ) → i < k → getD new i 0 ≡ at i
+    below : (i : ℕ) → i < k → getD new i 0 ≡ getD (xs ++ zeros) i 0
     below i b =
         by
         (ltb i n)
         (λ e. let l = ltb-true i n e in clear .front i l ∙ front i l ∙ sym (List·getD-append xs zeros 0 i (omega arith)))
         (λ e. let l = ltb-false i n e in clear .zeros i l b ∙ sym (zeros-behind xs (k - length xs) i (omega arith)))
 
-    in-order : tabulate k 0 at ≡ xs ++ zeros
-    in-order =
-        ext-getD 0 (tabulate k 0 at) (xs ++ zeros) (tabulate-length at k 0 ∙ simp (length-append, length-replicate) (omega arith))
-        (λ i b. tabulate-at at k 0 i 0 (omega (arith, tabulate-length at k 0)) ∙ ap at (omega arith))
-
 cleared-is : {n k : ℕ} {old mid new : List ℕ} → n ≡ 0 → k ≤ length old → Beyond k old mid → Cleared n k mid new → new ≡ padded k [] old
 cleared-is z room rest clear = padded-is [] (sym z) (omega arith) room rest clear (λ i b. absurd (omega arith))
 
--- what n rows leave, of which there are at most c
-module _ {A : Type 0} {n c : ℕ} (rs : List A) (first : A) (count : n ≡ length rs) (few : n ≤ c) where
-  -- one number for each row
-  rows-padded : {old mid new : List ℕ} (h : A → ℕ) → c ≤ length old → Beyond c old mid → Cleared n c mid new
-      → ((i : ℕ) → i < n → getD mid i 0 ≡ h (getD rs i first)) → new ≡ padded c (map h rs) old
-  rows-padded h room rest clear front =
-      padded-is (map h rs) (length-map rs h ∙ sym count) few room rest clear
-      (λ i l. rw (← append-nil (map h rs)) (front i l ∙ sym (mapped-at h rs [] i 0 first (rw (← count) l))))
+-- an array with other contents at its front keeps what stands behind them
+over-beyond : {k : ℕ} {old mid : List ℕ} (xs : List ℕ) → mid ≡ over xs old → length xs ≤ k → k ≤ length old → Beyond k old mid
+over-beyond {k} {old} {mid} xs e few room =
+    rw e (record { size = over-length xs old (omega arith); same = λ i l. over-rest xs old i (omega arith) })
 
-  -- one number for each letter of each row
-  cells-padded : {m : ℕ} {old mid new : List ℕ} (h : A → ℕ → ℕ) → 0 < m → c * m ≤ length old → Beyond (c * m) old mid → Cleared (n * m) (c * m) mid new
-      → ((i a : ℕ) → a < m → cell m i a < n * m → getD mid (cell m i a) 0 ≡ h (getD rs i first) a) → new ≡ padded (c * m) (joined (λ r. tabulate m 0 (h r)) rs) old
-  cells-padded {m} {old} {mid} h some room rest clear front =
-      padded-is cells (cells-length h m rs ∙ rw (← count)) (mul-le-mul-right m few) room rest clear same
-    where
-      cells : List ℕ
-      cells = joined (λ r. tabulate m 0 (h r)) rs
+filled-is : {n k : ℕ} (old : List ℕ) {mid new : List ℕ} (xs : List ℕ) → length xs ≡ n → n ≤ k → k ≤ length old → mid ≡ over xs old → Cleared n k mid new → new ≡ padded k xs old
+filled-is old xs size few room e clear =
+    padded-is xs size few room (over-beyond xs e (omega arith) room) clear (λ i l. rw e (over-front xs old i (omega arith)))
 
-      same : (p : ℕ) → p < n * m → getD mid p 0 ≡ getD cells p 0
-      same p l =
-          let s = cell-split m n p some l in
-          rw (← append-nil cells, s .4)
-          (front (s .0) (s .1) (s .2) (rw (s .4) at l) ∙ sym (cells-at h m rs [] (s .0) (s .1) 0 first (rw (← count) (s .3)) (s .2)))
+-- the codes of a table, cut from a longer array
+pub codes-cut : (t : Table) (cells : List ℕ) (used : ℕ) → used ≡ t .states * t .letters → AllCodes t cells → TableCodes t (take used cells)
+codes-cut t cells used e codes =
+    record {
+      size = length-take-le used cells (omega (arith, codes .enough)) ∙ e;
+      entry = λ q a l r. let within = cell-within (t .states) (t .letters) q a l r in getD-take used cells _ 0 (omega arith) ∙ codes .entry q a r within;
+    }
 
 -- ---- the returns
-pub translate-refused : (bs : List ℕ) (c : ℕ) (a b d e : List ℕ) (r : ℕ) → r ≡ tableFault bs → (r ≡ 0 → ⊥) → TranslateSays bs c a a b b d d e e r 0
+abbrev pub tooShort : List ℕ → ℕ → List ℕ → List ℕ → List ℕ → List ℕ → Bool
+tooShort bs c ts ps ss es = areShort c (tableOf bs .letters) (length ts) (length ps) (length ss) (length es)
+
+pub record HasRoom (c m : ℕ) (ts ps ss es : List ℕ) : Type 0 where
+  pub most-rows : c ≤ maxRows
+  pub target-room : c * m ≤ length ts
+  pub priority-room : c * m ≤ length ps
+  pub state-room : c ≤ length ss
+  pub number-room : c ≤ length es
+  -- nor is an array of keys as long as that of the record numbers too short
+  pub fit : areShort c m (length ts) (length ps) (length es) (length es) ≡ false
+
+pub has-room : (c m : ℕ) (ts ps ss es : List ℕ) → areShort c m (length ts) (length ps) (length ss) (length es) ≡ false → HasRoom c m ts ps ss es
+has-room c m ts ps ss es fits =
+    let k = c * m in
+    let numbers = ltb (length es) c in
+    let states = ltb (length ss) c || numbers in
+    let priority-tests = ltb (length ps) k || states in
+    let target-tests = ltb (length ts) k || priority-tests in
+    let p = or-none (eqb c 0) (ltb maxRows c || target-tests) fits in
+    let q = or-none (ltb maxRows c) target-tests (p .1) in
+    let r = or-none (ltb (length ts) k) priority-tests (q .1) in
+    let s = or-none (ltb (length ps) k) states (r .1) in
+    let u = or-none (ltb (length ss) c) numbers (s .1) in
+    record {
+      most-rows = ltb-false maxRows c (q .0);
+      target-room = ltb-false (length ts) k (r .0);
+      priority-room = ltb-false (length ps) k (s .0);
+      state-room = ltb-false (length ss) c (u .0);
+      number-room = ltb-false (length es) c (u .1);
+      fit = rw (p .0, q .0, r .0, s .0, u .1);
+    }
+
+pub translate-refused : (bs : List ℕ) (c : ℕ) (ts ps ss es : List ℕ) (r : ℕ) → r ≡ tableFault bs → (r ≡ 0 → ⊥) → TranslateSays bs c ts ts ps ps ss ss es es r 0
 unfolding translateFault
-translate-refused bs c a b d e zero f g = absurd (g refl)
-translate-refused bs c a b d e (suc r) f g =
+translate-refused bs c ts ps ss es zero f g = absurd (g refl)
+translate-refused bs c ts ps ss es (suc r) f g =
     record {
       refusal = rw (← f);
       count = rw (eqb·suc-zero r);
-      target-array = kept (c * lettersOf bs) (targets bs c) a;
-      priority-array = kept (c * lettersOf bs) (priorities bs c) b;
-      state-array = kept c (sourceStates bs c) d;
-      record-array = kept c (recordNumbers bs c) e;
+      target-array = kept (c * tableOf bs .letters) (targets bs c) ts;
+      priority-array = kept (c * tableOf bs .letters) (priorities bs c) ps;
+      state-array = kept c (sourceStates bs c) ss;
+      record-array = kept c (recordNumbers bs c) es;
     }
   where
     kept : (k : ℕ) (xs o : List ℕ) → o ≡ afterwards (suc r) k xs o
     kept k xs o = rw (eqb·suc-zero r, ne-eqb (suc r) Refusal.full (λ z. omega (arith, fault-below bs)))
 
-module _ (bs : List ℕ) (taken : Taken bs) (c : ℕ) (a b d e : List ℕ) where
-  pub translate-short : tooShort bs c a b d e ≡ true → TranslateSays bs c a a b b d d e e Refusal.arrays 0
+module _ (bs : List ℕ) (taken : Taken bs) (c : ℕ) (ts ps ss es : List ℕ) where
+  abbrev t : Table
+  t = tableOf bs
+
+  abbrev m : ℕ
+  m = t .letters
+
+  abbrev g : Plan (Row (List ℕ))
+  g = tablePlan t
+
+  abbrev rows : List (Row (List ℕ))
+  rows = rowsOf g c
+
+  pub translate-short : tooShort bs c ts ps ss es ≡ true → TranslateSays bs c ts ts ps ps ss ss es es Refusal.arrays 0
   unfolding translateFault
   translate-short s =
       record { refusal = rw (taken, s); count = refl; target-array = refl; priority-array = refl; state-array = refl; record-array = refl }
 
   -- there is room, and the rows have been looked for
-  module _ (fits : tooShort bs c a b d e ≡ false) (a₁ b₁ d₁ e₁ a′ b′ d′ e′ : List ℕ) (r : ℕ) (found : ExploreSays bs c d d₁ e e₁ a a₁ b b₁ r) where
-    room : Room bs c a b d e
-    room = has-room bs c a b d e fits
+  module _ (fits : tooShort bs c ts ps ss es ≡ false) (es₁ ts₁ ps₁ : List ℕ) (x : Explored) (found : TableExplored t c es es₁ ts ts₁ ps ps₁ x) where
+    room : HasRoom c m ts ps ss es
+    room = has-room c m ts ps ss es fits
 
-    pub translate-full : c < r → (k : ℕ) → k ≡ keptRows c r → RowsCleared (lettersOf bs) k c a₁ a′ b₁ b′ d₁ d′ e₁ e′ → TranslateSays bs c a a′ b b′ d d′ e e′ Refusal.full 0
-    unfolding translateFault
-    translate-full more k is clears =
-        let none : k ≡ 0 = is ∙ rw (lt-ltb c r more) in
-        let clear = rw none at clears in
-        record {
-          refusal = rw (taken, fits, ← found .full, lt-ltb c r more);
-          count = refl;
-          target-array = cleared-is (zero-mul (lettersOf bs)) (room .target-room) (found .target-rest) (clear .target-array);
-          priority-array = cleared-is (zero-mul (lettersOf bs)) (room .priority-room) (found .priority-rest) (clear .priority-array);
-          state-array = cleared-is refl (room .state-room) (found .state-rest) (clear .state-array);
-          record-array = cleared-is refl (room .number-room) (found .number-rest) (clear .number-array);
-        }
+    abbrev k : Plan ℕ
+    k = keyPlan (taskOf t) (found .cells)
 
-    pub translate-done : r ≤ c → (k : ℕ) → k ≡ keptRows c r → RowsCleared (lettersOf bs) k c a₁ a′ b₁ b′ d₁ d′ e₁ e′ → TranslateSays bs c a a′ b b′ d d′ e e′ 0 k
-    unfolding translateFault
-    translate-done few k is clears =
-        let all : k ≡ r = is ∙ rw (le-ltb c r few) in
-        let clear = rw all at clears in
-        let g = planIn bs in
-        let rs = tableRows bs c in
-        let n = found .count few in
-        let some = taken-table bs taken .sizes .some-letters in
-        record {
-          refusal = rw (taken, fits, ← found .full, le-ltb c r few);
-          count = all ∙ n;
-          target-array = cells-padded rs (g .first) n few (targetNumber g noRow rs) some (room .target-room) (found .target-rest) (clear .target-array) (found .read few .targets);
-          priority-array = cells-padded rs (g .first) n few (λ x y. g .step x y .prio) some (room .priority-room) (found .priority-rest) (clear .priority-array) (found .read few .priorities);
-          state-array = rows-padded rs (g .first) n few (λ x. x .source) (room .state-room) (found .state-rest) (clear .state-array) (found .states few);
-          record-array = rows-padded rs (g .first) n few (λ x. decimal (x .memory)) (room .number-room) (found .number-rest) (clear .number-array) (found .numbers few);
-        }
+    abbrev keys : List ℕ
+    keys = rowsOf k c
 
-pub promised : {bs : List ℕ} {c : ℕ} {a a′ b b′ d d′ e e′ : List ℕ} {number rows : ℕ} → TranslateSays bs c a a′ b b′ d d′ e e′ number rows
-    → TranslateSays bs c a a′ b b′ d d′ e e′ number rows × TranslationAgrees bs a′ b′ d′ number rows
+    coding : Codes k g keyRow (IsKey t)
+    coding = table-codes bs taken (found .cells) (found .codes)
+
+    answer : x ≡ pick (isFull g c) Full (Rows (length keys))
+    answer =
+        found .says .answer
+        ∙ rw (table-fit bs taken (found .cells) (found .codes) c (length ts) (length ps) (length es) (room .fit), full-coded k g keyRow (IsKey t) coding c)
+
+    -- no more rows than the capacity
+    by-answer : {C : Type 0} → (isFull g c ≡ true → x ≡ Full → C) → (isFull g c ≡ false → x ≡ Rows (length keys) → C) → C
+    by-answer full done = by (isFull g c) (λ e. full e (answer ∙ rw e)) (λ e. done e (answer ∙ rw e))
+
+    same-length : length keys ≡ length rows
+    same-length = sym (length-map keys keyRow) ∙ ap length (rows-coded k g keyRow (IsKey t) coding c)
+
+    pub kept-few : rowsKept x ≤ c
+    kept-few = by-answer (λ e z. rw z (omega arith)) (λ e z. rw z (omega (arith, same-length, ltb-false c (length rows) e)))
+
+    -- what is kept of the keys
+    module _ (done : isFull g c ≡ false) (z : x ≡ Rows (length keys)) where
+      arrays : Leaves (Rows (length keys)) (taskOf t) (found .cells) c es es₁ ts ts₁ ps ps₁
+      arrays = rw z at (found .says .arrays)
+
+      few : length keys ≤ c
+      few = omega (arith, same-length, ltb-false c (length rows) done)
+
+      key-at : (i : ℕ) → i < length keys → getD es₁ i 0 ≡ getD keys i (k .first)
+      key-at i l = rw (arrays .0) (over-front keys es i l) ∙ getD-any keys i 0 (k .first) l
+
+      good-key : (i : ℕ) → IsKey t (getD keys i (k .first))
+      good-key i = all-at i (k .first) (rows-good k g keyRow (IsKey t) coding c) (coding .good-first)
+
+      row-at : (i : ℕ) → i < length keys → keyRow (getD es₁ i 0) ≡ getD rows i (g .first)
+      row-at i l = ap keyRow (key-at i l) ∙ row-coded k g keyRow (IsKey t) coding i keys ∙ rw (rows-coded k g keyRow (IsKey t) coding c)
+
+    pub kept-sources : (i : ℕ) → i < rowsKept x → sourceIn (getD es₁ i 0) < 256
+    kept-sources i =
+        by-answer
+        (λ e z. rw z (λ l. absurd (omega arith)))
+        (λ e z. rw z (λ l. rw (key-at e z i l) (omega (arith, good-key e z i .is-row .state, taken-table bs taken .sizes .most-states))))
+
+    module _ (es₂ ss₁ ts′ ps′ ss′ es′ : List ℕ) (unpacked : Unpacked (rowsKept x) es₁ es₂ ss ss₁) (cleared : RowsCleared m (rowsKept x) c ts₁ ts′ ps₁ ps′ ss₁ ss′ es₂ es′) where
+      abbrev Said : Type 0
+      Said = TranslateSays bs c ts ts′ ps ps′ ss ss′ es es′ (refusalOf x) (rowsKept x)
+
+      said-full : isFull g c ≡ true → x ≡ Full → Said
+      unfolding translateFault
+      said-full e z =
+          let a = rw z at (found .says .arrays) in
+          let u = rw z at unpacked in
+          let clear = rw z at cleared in
+          rw z
+          (record {
+            refusal = rw (taken, fits, e);
+            count = refl;
+            target-array = cleared-is (zero-mul m) (room .target-room) (a .1) (clear .target-array);
+            priority-array = cleared-is (zero-mul m) (room .priority-room) (a .2) (clear .priority-array);
+            state-array = cleared-is refl (room .state-room) (beyond-wider (omega arith) (u .state-rest)) (clear .state-array);
+            record-array = cleared-is refl (room .number-room) (beyond-then (a .0) (beyond-wider (omega arith) (u .key-rest))) (clear .number-array);
+          })
+
+      -- one number for each row
+      rows-are : {old mid new : List ℕ} (h : Row (List ℕ) → ℕ) → c ≤ length old → length keys ≤ c → Beyond c old mid → Cleared (length keys) c mid new
+          → ((i : ℕ) → i < length keys → getD mid i 0 ≡ h (getD rows i (g .first))) → new ≡ padded c (map h rows) old
+      rows-are h enough few rest clear front =
+          padded-is (map h rows) (length-map rows h ∙ sym same-length) few enough rest clear
+          (λ i l. rw (← append-nil (map h rows)) (front i l ∙ sym (mapped-at h rows [] i 0 (g .first) (rw same-length at l))))
+
+      said-done : isFull g c ≡ false → x ≡ Rows (length keys) → Said
+      unfolding translateFault
+      said-done e z =
+          let a = arrays e z in
+          let u = rw z at unpacked in
+          let clear = rw z at cleared in
+          let enough = few e z in
+          let cells-few : length keys * m ≤ c * m = mul-le-mul-right m enough in
+          let ts-are = targets-coded k g keyRow (IsKey t) coding c noRow in
+          let ps-are = priorities-coded k g keyRow (IsKey t) coding c in
+          rw z
+          (record {
+            refusal = rw (taken, fits, e);
+            count = same-length;
+            target-array = filled-is ts (targets bs c) (cells-length _ m rows ∙ rw same-length) cells-few (room .target-room) (a .1 ∙ rw ts-are) (clear .target-array);
+            priority-array = filled-is ps (priorities bs c) (cells-length _ m rows ∙ rw same-length) cells-few (room .priority-room) (a .2 ∙ rw ps-are) (clear .priority-array);
+            state-array = rows-are (λ r. r .source) (room .state-room) enough (beyond-wider enough (u .state-rest)) (clear .state-array) (λ i l. u .states i l ∙ ap (λ (r : Row (List ℕ)). r .source) (row-at e z i l));
+            record-array = rows-are (λ r. decimal (r .memory)) (room .number-room) enough (beyond-then (over-beyond keys (a .0) enough (room .number-room)) (beyond-wider enough (u .key-rest))) (clear .number-array) (λ i l. u .numbers i l ∙ ap (λ (r : Row (List ℕ)). decimal (r .memory)) (row-at e z i l));
+          })
+
+      pub translate-explored : Said
+      translate-explored = by-answer said-full said-done
+
+pub promised : {bs : List ℕ} {c : ℕ} {ts ts′ ps ps′ ss ss′ es es′ : List ℕ} {number rows : ℕ} → TranslateSays bs c ts ts′ ps ps′ ss ss′ es es′ number rows
+    → TranslateSays bs c ts ts′ ps ps′ ss ss′ es es′ number rows × TranslationAgrees bs ts′ ps′ ss′ number rows
 promised s = (s, says-agrees _ _ _ _ _ _ _ _ _ _ _ _ s)

@@ -2,22 +2,26 @@
 --     row-source, row-word, row-of-key     what the key of a row says of its state and its record, and that it stands for the row
 --     row-pairs            every element of a row's record is the number of a pair that a place can hold
 --     row-is-key           the key of a row is a key
---     key-below            a key fits a word
---     entry-is-row, entry-small     the row by which a crossing enters at a state, and its record's word
+--     entry-is-row, entry-small, entry-below     the row by which a crossing enters at a state, its record's word, and its key
 use mathlib.Core.Path.{_≡_, sym, ap, _∙_}
 use mathlib.Core.List.{List}
-use Prim.Native.Nat.{ℕ, _*_, _≤_, _<_}
+use Prim.Native.Nat.{ℕ, _≤_, _<_}
 use native.Mathlib.Omega.{arith}
+use lib.ListN.{getD}
 use Rattle.rules.specs.Basics.{tabulate}
-use Rattle.rules.specs.Limits.{maxStates, maxPairs}
+use Rattle.rules.specs.Limits.{maxPairs}
 use Rattle.rules.specs.Rows.{Row, row}
-use Rattle.rules.specs.Tables.{Table, counts, rising}
+use Rattle.rules.specs.Tables.{Table, tableOf, counts, rising}
 use Rattle.rules.proofs.Appearance.{kept-length}
 use Rattle.rules.proofs.Arrays.{tabulate-length}
 use Rattle.rules.proofs.RabinTables.{rising-ordering, ordering-holds, counted-parts}
+use Rattle.rules.proofs.Refusals.{TakenTable}
 use Rattle.records.specs.Words.{packed}
 use Rattle.records.proofs.Packing.{AllPairs, pairs-packed, packed-small}
-use Rattle.translate.specs.Keys.{span, rowKey, keyRow, sourceIn, wordIn, IsRow, IsKey}
+use Rattle.tables.specs.Parts.{Listed}
+use Rattle.explore.specs.Cells.{span, sourceIn, memoryIn, crossingKind}
+use Rattle.translate.specs.Keys.{rowKey, keyRow, IsRow, IsKey}
+use Rattle.translate.specs.Cells.{entryKey}
 
 module _ (t : Table) (pairs : t .pairs ≤ maxPairs) (r : Row (List ℕ)) (good : IsRow t r) where
   pub row-pairs : AllPairs (r .memory)
@@ -31,7 +35,7 @@ module _ (t : Table) (pairs : t .pairs ≤ maxPairs) (r : Row (List ℕ)) (good 
   pub row-source : sourceIn (rowKey r) ≡ r .source
   row-source = omega (arith, word-small)
 
-  pub row-word : wordIn (rowKey r) ≡ packed (r .memory)
+  pub row-word : memoryIn (rowKey r) ≡ packed (r .memory)
   row-word = omega (arith, word-small)
 
   pub row-of-key : keyRow (rowKey r) ≡ r
@@ -39,9 +43,6 @@ module _ (t : Table) (pairs : t .pairs ≤ maxPairs) (r : Row (List ℕ)) (good 
 
   pub row-is-key : IsKey t (rowKey r)
   row-is-key = record { is-row = rw row-of-key good; exact = ap rowKey row-of-key }
-
-pub key-below : (t : Table) (v : ℕ) → t .states ≤ maxStates → IsKey t v → v < 256 * span
-key-below t v most key = let l : sourceIn v < t .states = key .is-row .state in omega arith
 
 pub entry-is-row : (t : Table) (q : ℕ) → t .pairs ≤ maxPairs → q < t .states → IsRow t (row q (rising t q))
 entry-is-row t q pairs l =
@@ -53,3 +54,9 @@ entry-is-row t q pairs l =
 
 pub entry-small : (t : Table) (q : ℕ) → t .pairs ≤ maxPairs → q < t .states → packed (rising t q) < span
 entry-small t q pairs l = word-small t pairs (row q (rising t q)) (entry-is-row t q pairs l)
+
+-- the keys at which states are entered are too small to be taken for a kind of transition
+pub entry-below : (bs entries : List ℕ) → TakenTable bs → Listed (tableOf bs .states) (entryKey (tableOf bs)) entries
+    → (q : ℕ) → q < tableOf bs .states → getD entries q 0 < crossingKind
+entry-below bs entries table listed q l =
+    omega (arith, listed .entry q l, entry-small (tableOf bs) q (table .sizes .most-pairs) l, table .sizes .most-states)

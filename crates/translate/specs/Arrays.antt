@@ -1,15 +1,10 @@
--- What a function leaves in a lent array, place by place.
---     Beyond k old new         from place k on new is as old
+-- What clearing leaves in a lent array, place by place.
 --     Cleared i k old new      from place i up to k new is 0, elsewhere it is as old
 --     RowsCleared m i c ..     the rows from number i up to c are 0 in all four arrays; a prime marks an array's contents at exit
 use mathlib.Core.Path.{_≡_}
 use mathlib.Core.List.{List}
 use Prim.Native.Nat.{ℕ, _*_, _<_, _≤_}
 use lib.ListN.{length, getD}
-
-pub record Beyond (k : ℕ) (old new : List ℕ) : Type 0 where
-  pub size : length new ≡ length old
-  pub same : (i : ℕ) → k ≤ i → getD new i 0 ≡ getD old i 0
 
 pub record Cleared (i k : ℕ) (old new : List ℕ) : Type 0 where
   pub size : length new ≡ length old

@@ -1,16 +1,18 @@
 -- `translate::translate_table` meets its contract: each return is one law of `Promises`, and demand 3 follows from it.
+use borrow.Author.Needs.{needs}
 use mathlib.Core.Path.{_≡_, sym, _∙_}
 use mathlib.Core.Bool.{false}
 use mathlib.Core.List.{List}
-use Prim.Native.Nat.{ℕ}
+use Prim.Native.Nat.{ℕ, _<_, _≤_}
+use lib.ListN.{getD}
 use native.Mathlib.Omega.{arith}
-use borrow.Author.Needs.{needs}
 use Rattle.rules.specs.Tables.{tableOf, tableFault}
 use Rattle.rules.proofs.Refusals.{TakenTable, taken-table}
 use Rattle.tables.specs.Parts.{Taken, statesOf, Listed}
 use Rattle.tables.specs.Surveys.{insideLetters, countedPairs}
-use Rattle.translate.specs.Exploring.{Room}
-use Rattle.translate.proofs.Promises.{tooShort, has-room, room-kept, survey-fault, survey-listed, kept-few, translate-refused, translate-short, translate-full, translate-done, promised}
+use Rattle.explore.specs.Cells.{sourceIn}
+use Rattle.translate.specs.Rows.{rowsKept}
+use Rattle.translate.proofs.Promises.{tooShort, HasRoom, has-room, survey-fault, survey-listed, kept-few, kept-sources, translate-refused, translate-short, translate-explored, promised}
 use Rattle.translate.proofs.translate_table.Statement.{statement}
 use Rattle.translate.proofs.translate_table.Tie as tie
 
@@ -44,31 +46,6 @@ module _ (c : tie.Else1) where
   counted-listed =
       survey-listed bytes _ _ _ _ is-taken (c .if1 .left) (survey .survey-table .kept .1 .1 .0) (survey .survey-table .ensures .counted-array)
 
-slice-aggregate-survey-table : tie.Need-slice-aggregate-survey-table
-slice-aggregate-survey-table c = search needs
-
-slice-aggregate-survey-table-2 : tie.Need-slice-aggregate-survey-table-2
-slice-aggregate-survey-table-2 c = search needs
-
-survey-table-requires : tie.Need-survey-table-requires
-survey-table-requires c κs = search needs
-
-returns : tie.Need-returns
-returns c = promised (translate-refused _ _ _ _ _ _ _ (table-refusal (c .before .before .before)) (c .if1 .taken))
-
-shared-slice-read-m : tie.Need-shared-slice-read-m
-shared-slice-read-m c = omega (arith, checked (c .before))
-
-cast-m : tie.Need-cast-m
-cast-m c = omega (arith, checked (c .before))
-
-are-short-requires : tie.Need-are-short-requires
-are-short-requires c κs = omega (arith, checked (c .before))
-
-returns-2 : tie.Need-returns-2
-returns-2 c =
-    promised (translate-short _ (is-taken (c .before .before .before)) _ _ _ _ _ (sym (c .before .are-short .ensures) ∙ c .if2 .taken))
-
 -- the arrays are not too short
 module _ (c : tie.Else2) where
   abbrev taken : tie.Else1
@@ -80,106 +57,75 @@ module _ (c : tie.Else2) where
   fits : tooShort (bytes taken) (given .args .capacity) (given .args .targets .now) (given .args .priorities .now) (given .args .sources .now) (given .args .records .now) ≡ false
   fits = sym (c .before .are-short .ensures) ∙ c .if2 .left
 
-  room : Room (bytes taken) (given .args .capacity) (given .args .targets .now) (given .args .priorities .now) (given .args .sources .now) (given .args .records .now)
+  room : HasRoom (given .args .capacity) (tableOf (bytes taken) .letters) (given .args .targets .now) (given .args .priorities .now) (given .args .sources .now) (given .args .records .now)
   room = has-room _ _ _ _ _ _ fits
 
+returns : tie.Need-returns
+returns c = promised (translate-refused _ _ _ _ _ _ _ (table-refusal (c .before .before .before)) (c .if1 .taken))
+
+returns-2 : tie.Need-returns-2
+returns-2 c = promised (translate-short _ (is-taken (c .before .before .before)) _ _ _ _ _ (sym (c .before .are-short .ensures) ∙ c .if2 .taken))
+
+explore-table-requires : tie.Need-explore-table-requires
+explore-table-requires c κs =
+    let u = taken (c .before .before .before .before .before) in
+    (is-taken u, inside-listed u, counted-listed u)
+
 -- the rows have been looked for
-abbrev explored : tie.After-slice-known8 → tie.After-write-rows
-explored c = c .before .before .before .before .before .before .before .before
+module _ (c : tie.After-explore-table) where
+  abbrev v : tie.Else2
+  v = c .before .before .before .before .before .before
 
-abbrev tests : tie.After-write-rows → tie.Else2
-tests c = c .before .before .before .before .before .before .before
+  kept-within : rowsKept (c .explore-table .result) ≤ given v .args .capacity
+  kept-within = kept-few (bytes (taken v)) (is-taken (taken v)) (given v .args .capacity) (given v .args .targets .now) (given v .args .priorities .now) (given v .args .sources .now) (given v .args .records .now) (fits v) _ _ _ _ (c .explore-table .ensures)
 
--- what stands behind the rows that are kept has been cleared
-abbrev cleared : tie.After-slice-known12 → tie.After-clear-rows
-cleared c = c .before .before .before .before .before .before .before .before
+  sources-small : (i : ℕ) → i < rowsKept (c .explore-table .result) → sourceIn (getD (c .explore-table .last .1 .1 .1 .1 .0) i 0) < 256
+  sources-small = kept-sources (bytes (taken v)) (is-taken (taken v)) (given v .args .capacity) (given v .args .targets .now) (given v .args .priorities .now) (given v .args .sources .now) (given v .args .records .now) (fits v) _ _ _ _ (c .explore-table .ensures)
 
-abbrev kept : tie.After-clear-rows → tie.After-kept-rows
-kept c = c .before .before .before .before .before
+unpack-requires : tie.Need-unpack-requires
+unpack-requires c κs =
+    let x = c .before .before .before .before .before .before .before .before .before in
+    let r = room (v x) in
+    let n = c .before .before .rows-kept .ensures in
+    (omega (arith, n, kept-within x, r), omega (arith, n, kept-within x, r, x .explore-table .kept .1 .1 .1 .1 .0), omega (arith, n, kept-within x, r), rw n (sources-small x))
 
-slice-aggregate-write-rows : tie.Need-slice-aggregate-write-rows
-slice-aggregate-write-rows c = search needs
-
-slice-aggregate-write-rows-2 : tie.Need-slice-aggregate-write-rows-2
-slice-aggregate-write-rows-2 c = search needs
-
-write-rows-requires : tie.Need-write-rows-requires
-write-rows-requires c κs =
-    let u : tie.Else2 = c .before .before .before .before .before .before in
-    (is-taken (taken u), inside-listed (taken u), counted-listed (taken u), room u)
-
-kept-rows-requires : tie.Need-kept-rows-requires
-kept-rows-requires c κs = search needs
+cast-clear-rows : tie.Need-cast-clear-rows
+cast-clear-rows c = omega (arith, checked (c .before .before .before .before .before .before .before .before .before .before .before .before .before .before .before .before .before .before .before .before .before .before .before))
 
 clear-rows-requires : tie.Need-clear-rows-requires
 clear-rows-requires c κs =
-    let v : tie.After-kept-rows = c .before .before .before .before in
-    let x = explored (v .before) in
-    let few = kept-few (given (tests x) .args .capacity) (x .write-rows .result) in
-    omega (arith, v .kept-rows .ensures, checked (taken (tests x)), room-kept (room (tests x)) (x .write-rows .ensures))
-
-same-length : tie.Need-same-length
-same-length c = search needs
-
-same-length-2 : tie.Need-same-length-2
-same-length-2 c = search needs
-
-same-length-3 : tie.Need-same-length-3
-same-length-3 c = search needs
-
-same-length-4 : tie.Need-same-length-4
-same-length-4 c = search needs
+    let x = c .before .before .before .before .before .before .before .before .before .before .before .before .before .before .before .before .before .before in
+    let n = c .before .before .before .before .before .before .before .before .before .before .before .rows-kept .ensures in
+    omega (arith, n, kept-within x, room (v x), checked (taken (v x)), x .explore-table .kept, c .before .before .before .before .before .before .before .before .unpack .kept)
 
 returns-3 : tie.Need-returns-3
 returns-3 c =
-    let w = cleared (c .before) in
-    let x = explored (kept w .before) in
-    let u = tests x in
-    promised (translate-full _ (is-taken (taken u)) _ _ _ _ _ (fits u) _ _ _ _ _ _ _ _ _ (x .write-rows .ensures) (c .if3 .taken) _ (kept w .kept-rows .ensures) (w .clear-rows .ensures))
-
-same-length-5 : tie.Need-same-length-5
-same-length-5 c = search needs
-
-same-length-6 : tie.Need-same-length-6
-same-length-6 c = search needs
-
-same-length-7 : tie.Need-same-length-7
-same-length-7 c = search needs
-
-same-length-8 : tie.Need-same-length-8
-same-length-8 c = search needs
-
-returns-4 : tie.Need-returns-4
-returns-4 c =
-    let w = cleared (c .before) in
-    let x = explored (kept w .before) in
-    let u = tests x in
-    promised (translate-done _ (is-taken (taken u)) _ _ _ _ _ (fits u) _ _ _ _ _ _ _ _ _ (x .write-rows .ensures) (c .if3 .left) _ (kept w .kept-rows .ensures) (w .clear-rows .ensures))
+    let x = c .before .before .before .before .before .before .before .before .before .before .before .before .before .before .before .before .before .before .before .before .before .before .before .before .before .before .before .before in
+    let a = given (v x) .args in
+    let n = c .before .before .before .before .before .before .before .before .before .before .before .before .before .before .before .before .before .before .before .before .before .rows-kept .ensures in
+    rw (n, c .refusal-of .ensures) (promised (translate-explored (bytes (taken (v x))) (is-taken (taken (v x))) (a .capacity) (a .targets .now) (a .priorities .now) (a .sources .now) (a .records .now) (fits (v x)) _ _ _ _ (x .explore-table .ensures) _ _ _ _ _ _ (rw n at (c .before .before .before .before .before .before .before .before .before .before .before .before .before .before .before .before .before .before .unpack .ensures)) (rw n at (c .before .before .before .before .before .before .before .before .before .clear-rows .ensures))))
 
 pub translate-table-spec : {M : Type 1} → statement M
 translate-table-spec =
     tie.close
     (tie.spec
-    slice-aggregate-survey-table
-    slice-aggregate-survey-table-2
-    survey-table-requires
+    (λ c. search needs)
+    (λ c. search needs)
+    (λ c κs. search needs)
     returns
-    shared-slice-read-m
-    cast-m
-    are-short-requires
+    (λ c. omega (arith, checked (c .before)))
+    (λ c κs. search needs)
     returns-2
-    slice-aggregate-write-rows
-    slice-aggregate-write-rows-2
-    write-rows-requires
-    kept-rows-requires
+    (λ c. search needs)
+    (λ c. search needs)
+    explore-table-requires
+    (λ c κs. search needs)
+    unpack-requires
+    cast-clear-rows
     clear-rows-requires
-    same-length
-    same-length-2
-    same-length-3
-    same-length-4
-    returns-3
-    same-length-5
-    same-length-6
-    same-length-7
-    same-length-8
-    returns-4)
+    (λ c κs. search needs)
+    (λ c. search needs)
+    (λ c. search needs)
+    (λ c. search needs)
+    (λ c. search needs)
+    returns-3)

@@ -1,19 +1,19 @@
 -- `translate::cells::write_entries` meets its contract. The invariant: below q each state's entry is written.
+use borrow.Author.Needs.{needs}
 use mathlib.Core.Path.{_≡_, ap, _∙_}
 use Prim.Native.Nat.{ℕ, _-_, _≤_, _<_}
 use native.Mathlib.Nat.{le-antisymm}
 use native.Mathlib.Omega.{arith}
-use borrow.Author.Needs.{needs}
 use Rattle.rules.specs.Basics.{keep, tabulate}
 use Rattle.rules.specs.Limits.{maxPairs}
 use Rattle.rules.specs.Tables.{Table, tableOf, rising}
 use Rattle.rules.proofs.Filling.{Filled, filled-none, filled-more}
 use Rattle.rules.proofs.Refusals.{TakenTable, taken-table}
 use Rattle.records.specs.Words.{limit, isMarked, packed}
-use Rattle.translate.specs.Keys.{keyOf}
+use Rattle.explore.specs.Cells.{keyOf, span}
 use Rattle.translate.specs.Cells.{entryKey}
 use Rattle.translate.proofs.RowKeys.{entry-small}
-use Rattle.translate.proofs.CellWords.{rising-marked}
+use Rattle.translate.proofs.CellCodes.{rising-marked}
 use Rattle.translate.proofs.cells.write_entries.Statement.{statement}
 use Rattle.translate.proofs.cells.write_entries.Tie as tie
 
@@ -49,47 +49,28 @@ module _ (c : tie.After-rising Inv-loop μ-loop) where
       ∙ ap (λ (m : ℕ). packed (keep (isMarked m) (tabulate limit 1 (λ i. i)))) (start .pre .1 .entry q is-state)
       ∙ ap packed (rising-marked t q few)
 
-shared-slice-read-n : tie.Need-shared-slice-read-n Inv-loop μ-loop
-shared-slice-read-n c = omega (arith, known (c .before .before .before .before))
-
-cast-n : tie.Need-cast-n Inv-loop μ-loop
-cast-n c = search needs
-
-loop-holds : tie.Need-loop-holds Inv-loop μ-loop
-loop-holds c = (search needs, filled-none _ _)
+  small : c .rising .result .word < span
+  small = rw order-word (entry-small t q few is-state)
 
 shared-slice-read-rising : tie.Need-shared-slice-read-rising Inv-loop μ-loop
-shared-slice-read-rising c = omega (arith, c .before .loop-test .taken, (c .before .before .before .before .before .before .before) .pre .1 .enough)
+shared-slice-read-rising c = omega (arith, c .before .loop-test .taken, c .before .before .before .before .before .before .before .pre .1 .enough)
 
-rising-requires : tie.Need-rising-requires Inv-loop μ-loop
-rising-requires c κs = tt
+add-entries : tie.Need-add-entries Inv-loop μ-loop
+add-entries c = omega (arith, known (start (c .before)), is-state (c .before), small (c .before))
 
-cast-key-of : tie.Need-cast-key-of Inv-loop μ-loop
-cast-key-of c = omega (arith, known (c .before .before .before .before .before .before .before .before))
-
-key-of-requires : tie.Need-key-of-requires Inv-loop μ-loop
-key-of-requires c κs = (omega (arith, known (start c), is-state c), rw (order-word c) (entry-small (t c) (q c) (few c) (is-state c)))
-
-mul-entries : tie.Need-mul-entries Inv-loop μ-loop
-mul-entries c = omega (arith, known (c .before .before .before .before .before .before .before .before .before))
+mul-entries-2 : tie.Need-mul-entries-2 Inv-loop μ-loop
+mul-entries-2 c = omega (arith, known (start (c .before)), is-state (c .before))
 
 slice-write-entries : tie.Need-slice-write-entries Inv-loop μ-loop
 slice-write-entries c = omega (arith, is-state (c .before), c .before .before .before .before .loop .inv .1 .size, start (c .before) .pre .2)
 
 add-q : tie.Need-add-q Inv-loop μ-loop
-add-q c = omega (arith, known (c .before .before .before .before .before .before .before .before .before))
-
-loop-less : tie.Need-loop-less Inv-loop μ-loop
-loop-less c = omega arith
+add-q c = omega (arith, known (start (c .before)), is-state (c .before))
 
 loop-again : tie.Need-loop-again Inv-loop μ-loop
 loop-again c =
-    let r = c .before in
     let f = c .before .before .before .before .loop .inv .1 in
-    (omega arith, filled-more _ _ _ (q r) (c .key-of .result) (omega (arith, is-state r, start r .pre .2)) (c .key-of .ensures ∙ ap (keyOf (q r)) (order-word r)) f)
-
-same-length : tie.Need-same-length Inv-loop μ-loop
-same-length c = c .before .loop .inv .1 .size
+    (omega (arith, is-state (c .before)), filled-more _ _ _ (q (c .before)) _ (omega (arith, is-state (c .before), start (c .before) .pre .2)) (ap (keyOf (q (c .before))) (order-word (c .before))) f)
 
 returns : tie.Need-returns Inv-loop μ-loop
 returns c =
@@ -104,17 +85,18 @@ write-entries-spec =
     (tie.spec
     Inv-loop
     μ-loop
-    shared-slice-read-n
-    cast-n
-    loop-holds
+    (λ c. omega (arith, known (c .before .before .before .before)))
+    (λ c. search needs)
+    (λ c. (search needs, filled-none _ _))
     shared-slice-read-rising
-    rising-requires
-    cast-key-of
-    key-of-requires
-    mul-entries
+    (λ c κs. tt)
+    (λ c. omega (arith, known (start (c)), is-state (c)))
+    (λ c. omega (arith, known (start (c)), is-state (c)))
+    add-entries
+    mul-entries-2
     slice-write-entries
     add-q
-    loop-less
+    (λ c. search needs)
     loop-again
-    same-length
+    (λ c. c .before .loop .inv .1 .size)
     returns)
