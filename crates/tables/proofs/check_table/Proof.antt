@@ -57,18 +57,6 @@ judged c =
 returns : tie.Need-returns
 returns c = header-short _ (lt-ltb _ _ (c .if1 .taken))
 
-shared-slice-read-n : tie.Need-shared-slice-read-n
-shared-slice-read-n c = search needs
-
-shared-slice-read-m : tie.Need-shared-slice-read-m
-shared-slice-read-m c = search needs
-
-shared-slice-read-k : tie.Need-shared-slice-read-k
-shared-slice-read-k c = search needs
-
-sizes-fault-requires : tie.Need-sizes-fault-requires
-sizes-fault-requires c κs = search needs
-
 returns-2 : tie.Need-returns-2
 returns-2 c = sizes-bad _ (whole (c .before .before .before .before .before)) (sym (c .before .sizes-fault .ensures) ∙ c .if2 .taken)
 
@@ -93,38 +81,11 @@ returns-3 c = cells-short _ (header (c .before)) (sizes (c .before)) (lt-ltb _ _
 returns-4 : tie.Need-returns-4
 returns-4 c = cells-long _ (header (c .before .before)) (sizes (c .before .before)) (enough (c .before)) (lt-ltb _ _ (c .if4 .taken))
 
-shared-slice-read-if5 : tie.Need-shared-slice-read-if5
-shared-slice-read-if5 c = search needs
-
 returns-5 : tie.Need-returns-5
 returns-5 c =
     let four = c .before .before in
     let two = four .before .before in
     start-bad _ (header two) (sizes two) (enough (four .before)) (exact four) (le-leb _ _ (c .if5 .taken))
-
-add-marks-at : tie.Need-add-marks-at
-add-marks-at c = search needs
-
-sub-targets : tie.Need-sub-targets
-sub-targets c = search needs
-
-part-targets-start : tie.Need-part-targets-start
-part-targets-start c = search needs
-
-part-targets-end : tie.Need-part-targets-end
-part-targets-end c = search needs
-
-target-fault-requires : tie.Need-target-fault-requires
-target-fault-requires c κs = search needs
-
-sub-marks-fault : tie.Need-sub-marks-fault
-sub-marks-fault c = search needs
-
-part-marks-fault-start : tie.Need-part-marks-fault-start
-part-marks-fault-start c = search needs
-
-part-marks-fault-end : tie.Need-part-marks-fault-end
-part-marks-fault-end c = search needs
 
 marks-fault-requires : tie.Need-marks-fault-requires
 marks-fault-requires c κs =
@@ -146,10 +107,10 @@ check-table-spec =
     tie.close
     (tie.spec
     returns
-    shared-slice-read-n
-    shared-slice-read-m
-    shared-slice-read-k
-    sizes-fault-requires
+    (λ c. search needs)
+    (λ c. search needs)
+    (λ c. search needs)
+    (λ c κs. search needs)
     returns-2
     cast-cells
     cast-cells-2
@@ -158,16 +119,16 @@ check-table-spec =
     add-length
     returns-3
     returns-4
-    shared-slice-read-if5
+    (λ c. search needs)
     returns-5
-    add-marks-at
-    sub-targets
-    part-targets-start
-    part-targets-end
-    target-fault-requires
-    sub-marks-fault
-    part-marks-fault-start
-    part-marks-fault-end
+    (λ c. search needs)
+    (λ c. search needs)
+    (λ c. search needs)
+    (λ c. search needs)
+    (λ c κs. search needs)
+    (λ c. search needs)
+    (λ c. search needs)
+    (λ c. search needs)
     marks-fault-requires
     returns-6
     returns-7

@@ -8,9 +8,6 @@ use Rattle.tables.proofs.Promises.{components-refused, components-short
 use Rattle.tables.proofs.find_components.Statement.{statement}
 use Rattle.tables.proofs.find_components.Tie as tie
 
-check-table-requires : tie.Need-check-table-requires
-check-table-requires c κs = search needs
-
 -- what the first test leaves
 taken : (c : tie.Else1) → Taken (c .before .before .before .before .args .table .now)
 taken c = sym (c .before .check-table .ensures) ∙ c .if1 .left
@@ -27,12 +24,6 @@ cast-if2 c = omega (arith, taken-table _ (taken (c .before)))
 returns-2 : tie.Need-returns-2
 returns-2 c = components-short _ (taken (c .before .before)) _ (c .if2 .taken)
 
-write-components-requires : tie.Need-write-components-requires
-write-components-requires c κs = search needs
-
-same-length : tie.Need-same-length
-same-length c = search needs
-
 returns-3 : tie.Need-returns-3
 returns-3 c =
     let e = c .before .before .before .before in
@@ -42,11 +33,11 @@ pub find-components-spec : {M : Type 1} → statement M
 find-components-spec =
     tie.close
     (tie.spec
-    check-table-requires
+    (λ c κs. search needs)
     returns
     shared-slice-read-if2
     cast-if2
     returns-2
-    write-components-requires
-    same-length
+    (λ c κs. search needs)
+    (λ c. search needs)
     returns-3)

@@ -56,9 +56,6 @@ inside-listed c =
     let enough : statesOf bs ≤ length (c .write-inside .last .1 .1 .0) = rw (c .write-inside .kept .1 .1 .0) (room (tests w) .0) in
     listed (statesOf bs) (insideLetters (tableOf bs)) _ (c .write-inside .last .1 .1 .0) enough (c .write-inside .ensures)
 
-check-table-requires : tie.Need-check-table-requires
-check-table-requires c κs = search needs
-
 returns : tie.Need-returns
 returns c = survey-refused _ _ _ _ (c .before .check-table .ensures) (c .if1 .taken)
 
@@ -71,32 +68,17 @@ cast-n c = omega (arith, taken-table _ (taken (c .before)))
 returns-2 : tie.Need-returns-2
 returns-2 c = survey-short _ (taken (c .before .before)) _ _ (c .if2 .taken)
 
-slice-aggregate-write-components : tie.Need-slice-aggregate-write-components
-slice-aggregate-write-components c = search needs
-
 write-components-requires : tie.Need-write-components-requires
 write-components-requires c κs = (taken (c .before .before .before), taken-table _ (taken (c .before .before .before)) .sizes .most-states)
 
-slice-aggregate-write-inside : tie.Need-slice-aggregate-write-inside
-slice-aggregate-write-inside c = search needs
-
 write-inside-requires : tie.Need-write-inside-requires
 write-inside-requires c κs = let w = c .before .before .before in (is-taken w, numbers w, room (tests w) .0)
-
-slice-aggregate-write-counted : tie.Need-slice-aggregate-write-counted
-slice-aggregate-write-counted c = search needs
 
 write-counted-requires : tie.Need-write-counted-requires
 write-counted-requires c κs =
     let i = c .before .before .before .before .before in
     let w = i .before .before .before .before in
     (is-taken w, numbers w, inside-listed i, room (tests w) .1)
-
-same-length : tie.Need-same-length
-same-length c = search needs
-
-same-length-2 : tie.Need-same-length-2
-same-length-2 c = search needs
 
 returns-3 : tie.Need-returns-3
 returns-3 c =
@@ -108,17 +90,17 @@ pub survey-table-spec : {M : Type 1} → statement M
 survey-table-spec =
     tie.close
     (tie.spec
-    check-table-requires
+    (λ c κs. search needs)
     returns
     shared-slice-read-n
     cast-n
     returns-2
-    slice-aggregate-write-components
+    (λ c. search needs)
     write-components-requires
-    slice-aggregate-write-inside
+    (λ c. search needs)
     write-inside-requires
-    slice-aggregate-write-counted
+    (λ c. search needs)
     write-counted-requires
-    same-length
-    same-length-2
+    (λ c. search needs)
+    (λ c. search needs)
     returns-3)

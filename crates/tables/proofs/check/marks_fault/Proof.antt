@@ -26,9 +26,6 @@ Inv-loop targets marks k high above bad₀ c₀ bad c =
 abbrev μ-loop : tie.MeasureT-loop
 μ-loop targets marks k high above bad₀ c₀ bad c = length targets - c
 
-shl-high : tie.Need-shl-high Inv-loop μ-loop
-shl-high c = omega arith
-
 sub-high : tie.Need-sub-high Inv-loop μ-loop
 sub-high c = let s = c .before .before in omega (arith, top (s .args .k) (s .pre .1))
 
@@ -40,36 +37,6 @@ add-above c = let s = c .before .before in omega (arith, top (s .args .k) (s .pr
 
 loop-holds : tie.Need-loop-holds Inv-loop μ-loop
 loop-holds c = (search needs, refl)
-
-mul-marks-word : tie.Need-mul-marks-word Inv-loop μ-loop
-mul-marks-word c = omega arith
-
-shared-slice-read-marks-word : tie.Need-shared-slice-read-marks-word Inv-loop μ-loop
-shared-slice-read-marks-word c = omega arith
-
-mul-marks-word-2 : tie.Need-mul-marks-word-2 Inv-loop μ-loop
-mul-marks-word-2 c = omega arith
-
-add-marks-word : tie.Need-add-marks-word Inv-loop μ-loop
-add-marks-word c = omega arith
-
-shared-slice-read-marks-word-2 : tie.Need-shared-slice-read-marks-word-2 Inv-loop μ-loop
-shared-slice-read-marks-word-2 c = omega arith
-
-marks-word-requires : tie.Need-marks-word-requires Inv-loop μ-loop
-marks-word-requires c κs = search needs
-
-shared-slice-read-barred-bits : tie.Need-shared-slice-read-barred-bits Inv-loop μ-loop
-shared-slice-read-barred-bits c = omega arith
-
-barred-bits-requires : tie.Need-barred-bits-requires Inv-loop μ-loop
-barred-bits-requires c κs = search needs
-
-add-c : tie.Need-add-c Inv-loop μ-loop
-add-c c = omega arith
-
-loop-less : tie.Need-loop-less Inv-loop μ-loop
-loop-less c = omega arith
 
 loop-again : tie.Need-loop-again Inv-loop μ-loop
 loop-again c =
@@ -95,20 +62,20 @@ marks-fault-spec =
     (tie.spec
     Inv-loop
     μ-loop
-    shl-high
+    (λ c. omega arith)
     sub-high
     mul-above
     add-above
     loop-holds
-    mul-marks-word
-    shared-slice-read-marks-word
-    mul-marks-word-2
-    add-marks-word
-    shared-slice-read-marks-word-2
-    marks-word-requires
-    shared-slice-read-barred-bits
-    barred-bits-requires
-    add-c
-    loop-less
+    (λ c. omega arith)
+    (λ c. omega arith)
+    (λ c. omega arith)
+    (λ c. omega arith)
+    (λ c. omega arith)
+    (λ c κs. search needs)
+    (λ c. omega arith)
+    (λ c κs. search needs)
+    (λ c. omega arith)
+    (λ c. omega arith)
     loop-again
     returns)

@@ -15,35 +15,8 @@ Inv-loop rows₀ n k through p₀ rows p = (p ≤ n) × Filled (λ i v. Joined k
 abbrev μ-loop : tie.MeasureT-loop
 μ-loop rows₀ n k through p₀ rows p = n - p
 
-mul-through : tie.Need-mul-through Inv-loop μ-loop
-mul-through c = omega arith
-
-slice-read-through : tie.Need-slice-read-through Inv-loop μ-loop
-slice-read-through c = omega arith
-
 loop-holds : tie.Need-loop-holds Inv-loop μ-loop
 loop-holds c = (search needs, filled-none _ _)
-
-mul-with-all : tie.Need-mul-with-all Inv-loop μ-loop
-mul-with-all c = omega arith
-
-slice-read-with-all : tie.Need-slice-read-with-all Inv-loop μ-loop
-slice-read-with-all c = omega arith
-
-with-all-requires : tie.Need-with-all-requires Inv-loop μ-loop
-with-all-requires c κs = omega arith
-
-mul-rows : tie.Need-mul-rows Inv-loop μ-loop
-mul-rows c = omega arith
-
-slice-write-rows : tie.Need-slice-write-rows Inv-loop μ-loop
-slice-write-rows c = omega arith
-
-add-p : tie.Need-add-p Inv-loop μ-loop
-add-p c = omega arith
-
-loop-less : tie.Need-loop-less Inv-loop μ-loop
-loop-less c = omega arith
 
 loop-again : tie.Need-loop-again Inv-loop μ-loop
 loop-again c =
@@ -69,16 +42,16 @@ close-stage-spec =
     (tie.spec
     Inv-loop
     μ-loop
-    mul-through
-    slice-read-through
+    (λ c. omega arith)
+    (λ c. omega arith)
     loop-holds
-    mul-with-all
-    slice-read-with-all
-    with-all-requires
-    mul-rows
-    slice-write-rows
-    add-p
-    loop-less
+    (λ c. omega arith)
+    (λ c. omega arith)
+    (λ c κs. omega arith)
+    (λ c. omega arith)
+    (λ c. omega arith)
+    (λ c. omega arith)
+    (λ c. omega arith)
     loop-again
     same-length
     returns)

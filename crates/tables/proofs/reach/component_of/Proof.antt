@@ -32,43 +32,13 @@ module _ (c : tie.After-has2 Inv-loop μ-loop) where
 loop-holds : tie.Need-loop-holds Inv-loop μ-loop
 loop-holds c = (search needs, below-none _)
 
-mul-has : tie.Need-mul-has Inv-loop μ-loop
-mul-has c = omega arith
-
-shared-slice-read-has : tie.Need-shared-slice-read-has Inv-loop μ-loop
-shared-slice-read-has c = omega arith
-
-has-requires : tie.Need-has-requires Inv-loop μ-loop
-has-requires c κs = omega arith
-
-mul-has-2 : tie.Need-mul-has-2 Inv-loop μ-loop
-mul-has-2 c = omega arith
-
-shared-slice-read-has-2 : tie.Need-shared-slice-read-has-2 Inv-loop μ-loop
-shared-slice-read-has-2 c = omega arith
-
-has-requires-2 : tie.Need-has-requires-2 Inv-loop μ-loop
-has-requires-2 c κs = omega arith
-
-cast-result : tie.Need-cast-result Inv-loop μ-loop
-cast-result c = omega arith
-
 returns : tie.Need-returns Inv-loop μ-loop
 returns c =
     λ s l h. let turn-test = c .before .before .before .before .before .loop-test .taken in
     component-met s (rowHas (start (c .before) .args .rows .now)) h _ l _ turn-test (tested (c .before) ∙ c .if1 .taken) (turn (c .before) .loop .inv .1)
 
-add-p : tie.Need-add-p Inv-loop μ-loop
-add-p c = omega arith
-
-loop-less : tie.Need-loop-less Inv-loop μ-loop
-loop-less c = omega arith
-
 loop-again : tie.Need-loop-again Inv-loop μ-loop
 loop-again c = (omega arith, below-more _ _ (turn (c .before) .loop .inv .1) (tested (c .before) ∙ c .if1 .left))
-
-cast-result-2 : tie.Need-cast-result-2 Inv-loop μ-loop
-cast-result-2 c = omega arith
 
 returns-2 : tie.Need-returns-2 Inv-loop μ-loop
 returns-2 c =
@@ -82,16 +52,16 @@ component-of-spec =
     Inv-loop
     μ-loop
     loop-holds
-    mul-has
-    shared-slice-read-has
-    has-requires
-    mul-has-2
-    shared-slice-read-has-2
-    has-requires-2
-    cast-result
+    (λ c. omega arith)
+    (λ c. omega arith)
+    (λ c κs. omega arith)
+    (λ c. omega arith)
+    (λ c. omega arith)
+    (λ c κs. omega arith)
+    (λ c. omega arith)
     returns
-    add-p
-    loop-less
+    (λ c. omega arith)
+    (λ c. omega arith)
     loop-again
-    cast-result-2
+    (λ c. omega arith)
     returns-2)

@@ -56,9 +56,6 @@ with-target-requires c κs = known (c .before .before .before .before .before .b
 add-a : tie.Need-add-a Inv-loop μ-loop
 add-a c = omega (arith, known (c .before .before .before .before .before .before .before))
 
-loop-less : tie.Need-loop-less Inv-loop μ-loop
-loop-less c = omega arith
-
 loop-again : tie.Need-loop-again Inv-loop μ-loop
 loop-again c =
     let s = c .before .before .before .before .before .before .before in
@@ -90,6 +87,6 @@ link-row-spec =
     shared-slice-read-with-target
     with-target-requires
     add-a
-    loop-less
+    (λ c. omega arith)
     loop-again
     returns)

@@ -20,18 +20,6 @@ abbrev μ-loop : tie.MeasureT-loop
 loop-holds : tie.Need-loop-holds Inv-loop μ-loop
 loop-holds c = (search needs, search needs, λ s e h. filled-none _ _)
 
-component-of-requires : tie.Need-component-of-requires Inv-loop μ-loop
-component-of-requires c κs = omega arith
-
-slice-write-out : tie.Need-slice-write-out Inv-loop μ-loop
-slice-write-out c = omega arith
-
-add-q : tie.Need-add-q Inv-loop μ-loop
-add-q c = omega arith
-
-loop-less : tie.Need-loop-less Inv-loop μ-loop
-loop-less c = omega arith
-
 loop-again : tie.Need-loop-again Inv-loop μ-loop
 loop-again c =
     let i = c .before .before .loop in
@@ -50,10 +38,10 @@ read-components-spec =
     Inv-loop
     μ-loop
     loop-holds
-    component-of-requires
-    slice-write-out
-    add-q
-    loop-less
+    (λ c κs. omega arith)
+    (λ c. omega arith)
+    (λ c. omega arith)
+    (λ c. omega arith)
     loop-again
     same-length
     returns)

@@ -7,9 +7,6 @@ use borrow.Author.Tests.{ne-eqb}
 use Rattle.tables.proofs.reach.with_target.Statement.{statement}
 use Rattle.tables.proofs.reach.with_target.Tie as tie
 
-with-requires : tie.Need-with-requires
-with-requires c κs = search needs
-
 returns : tie.Need-returns
 returns c = λ q l. c .with .ensures q
 
@@ -17,4 +14,4 @@ returns-2 : tie.Need-returns-2
 returns-2 c = λ q l. rw (ne-eqb (c .before .args .target) q (λ e. omega arith)) (sym (or-false _))
 
 pub with-target-spec : {M : Type 1} → statement M
-with-target-spec = tie.close (tie.spec with-requires returns returns-2)
+with-target-spec = tie.close (tie.spec (λ c κs. search needs) returns returns-2)

@@ -14,31 +14,16 @@ known c = taken-table _ (c .pre .0)
 shared-slice-read-n : tie.Need-shared-slice-read-n
 shared-slice-read-n c = omega (arith, known (c .before .before .before))
 
-cast-n : tie.Need-cast-n
-cast-n c = search needs
-
-slice-aggregate-link-rows : tie.Need-slice-aggregate-link-rows
-slice-aggregate-link-rows c = search needs
-
 link-rows-requires : tie.Need-link-rows-requires
 link-rows-requires c κs = (c .before .before .before .before .pre .0, known (c .before .before .before .before) .sizes .most-states)
 
-slice-aggregate-close-rows : tie.Need-slice-aggregate-close-rows
-slice-aggregate-close-rows c = search needs
-
 close-rows-requires : tie.Need-close-rows-requires
 close-rows-requires c κs = omega (arith, known (c .before .before .before .before .before .before .before), c .before .before .link-rows .kept .1 .0)
-
-slice-aggregate-read-components : tie.Need-slice-aggregate-read-components
-slice-aggregate-read-components c = search needs
 
 read-components-requires : tie.Need-read-components-requires
 read-components-requires c κs =
     let s = c .before .before .before .before .before .before .before .before .before .before .before in
     omega (arith, known s, c .before .before .before .close-rows .kept .0, c .before .before .before .before .before .before .link-rows .kept .1 .0, s .pre .1)
-
-same-length : tie.Need-same-length
-same-length c = search needs
 
 returns : tie.Need-returns
 returns c =
@@ -53,12 +38,12 @@ write-components-spec =
     tie.close
     (tie.spec
     shared-slice-read-n
-    cast-n
-    slice-aggregate-link-rows
+    (λ c. search needs)
+    (λ c. search needs)
     link-rows-requires
-    slice-aggregate-close-rows
+    (λ c. search needs)
     close-rows-requires
-    slice-aggregate-read-components
+    (λ c. search needs)
     read-components-requires
-    same-length
+    (λ c. search needs)
     returns)

@@ -67,9 +67,6 @@ slice-write-sets c = let i = c .before .before .before .before in omega (arith, 
 add-q : tie.Need-add-q Inv-loop μ-loop
 add-q c = omega (arith, known (start (c .before .before .before .before)))
 
-loop-less : tie.Need-loop-less Inv-loop μ-loop
-loop-less c = omega arith
-
 loop-again : tie.Need-loop-again Inv-loop μ-loop
 loop-again c =
     let in-loop = c .before .before .before .before in
@@ -105,7 +102,7 @@ gather-spec =
     met-pairs-requires
     slice-write-sets
     add-q
-    loop-less
+    (λ c. omega arith)
     loop-again
     same-length
     returns)

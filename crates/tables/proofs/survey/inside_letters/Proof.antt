@@ -66,9 +66,6 @@ with-letter-requires c κs =
 add-a : tie.Need-add-a Inv-loop μ-loop
 add-a c = omega (arith, known (c .before .before .before .before .before .before .before .before .before .before))
 
-loop-less : tie.Need-loop-less Inv-loop μ-loop
-loop-less c = omega arith
-
 loop-again : tie.Need-loop-again Inv-loop μ-loop
 loop-again c =
     let s = c .before .before .before .before .before .before .before .before .before .before in
@@ -105,6 +102,6 @@ inside-letters-spec =
     is-home-requires
     with-letter-requires
     add-a
-    loop-less
+    (λ c. omega arith)
     loop-again
     returns)

@@ -4,9 +4,6 @@ use borrow.Author.Tests.{lt-ltb, le-ltb}
 use Rattle.tables.proofs.survey.is_home.Statement.{statement}
 use Rattle.tables.proofs.survey.is_home.Tie as tie
 
-shared-slice-read-result : tie.Need-shared-slice-read-result
-shared-slice-read-result c = search needs
-
 returns : tie.Need-returns
 returns c = rw (lt-ltb _ _ (c .before .if1 .taken))
 
@@ -14,4 +11,4 @@ returns-2 : tie.Need-returns-2
 returns-2 c = rw (le-ltb _ _ (c .if1 .left))
 
 pub is-home-spec : {M : Type 1} → statement M
-is-home-spec = tie.close (tie.spec shared-slice-read-result returns returns-2)
+is-home-spec = tie.close (tie.spec (λ c. search needs) returns returns-2)

@@ -6,12 +6,6 @@ use Rattle.rules.proofs.Bits.{bit-none}
 use Rattle.tables.proofs.survey.kept.Statement.{statement}
 use Rattle.tables.proofs.survey.kept.Tie as tie
 
-cast-if1 : tie.Need-cast-if1
-cast-if1 c = search needs
-
-shr-if1 : tie.Need-shr-if1
-shr-if1 c = search needs
-
 returns : tie.Need-returns
 returns c = (λ j. rw (eq-eqb _ _ (c .if1 .taken)), search needs)
 
@@ -19,4 +13,4 @@ returns-2 : tie.Need-returns-2
 returns-2 c = (λ j. bit-none j ∙ rw (ne-eqb _ _ (c .if1 .left)), search needs)
 
 pub kept-spec : {M : Type 1} → statement M
-kept-spec = tie.close (tie.spec cast-if1 shr-if1 returns returns-2)
+kept-spec = tie.close (tie.spec (λ c. search needs) (λ c. search needs) returns returns-2)

@@ -79,9 +79,6 @@ kept-requires c κs = omega (arith, known (c .before .before .before .before .be
 add-a : tie.Need-add-a Inv-loop μ-loop
 add-a c = omega (arith, known (c .before .before .before .before .before .before .before))
 
-loop-less : tie.Need-loop-less Inv-loop μ-loop
-loop-less c = omega arith
-
 loop-again : tie.Need-loop-again Inv-loop μ-loop
 loop-again c =
     let s = c .before .before .before .before .before .before .before in
@@ -127,6 +124,6 @@ met-pairs-spec =
     shared-slice-read-kept
     kept-requires
     add-a
-    loop-less
+    (λ c. omega arith)
     loop-again
     returns)

@@ -8,12 +8,6 @@ use Rattle.rules.proofs.Bits.{one-shifted}
 use Rattle.tables.proofs.survey.with_letter.Statement.{statement}
 use Rattle.tables.proofs.survey.with_letter.Tie as tie
 
-cast-result : tie.Need-cast-result
-cast-result c = search needs
-
-shl-result : tie.Need-shl-result
-shl-result c = search needs
-
 add-result : tie.Need-add-result
 add-result c =
     let a = c .before .args .a in
@@ -27,4 +21,6 @@ returns-2 : tie.Need-returns-2
 returns-2 c = rw (c .if1 .left) (omega arith)
 
 pub with-letter-spec : {M : Type 1} → statement M
-with-letter-spec = tie.close (tie.spec cast-result shl-result add-result returns returns-2)
+with-letter-spec =
+    tie.close
+    (tie.spec (λ c. search needs) (λ c. search needs) add-result returns returns-2)

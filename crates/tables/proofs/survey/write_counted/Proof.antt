@@ -14,23 +14,14 @@ use Rattle.tables.proofs.Surveying.{component-below, gathered-none, gat
 use Rattle.tables.proofs.survey.write_counted.Statement.{statement}
 use Rattle.tables.proofs.survey.write_counted.Tie as tie
 
-slice-aggregate-gather : tie.Need-slice-aggregate-gather
-slice-aggregate-gather c = search needs
-
 gather-requires : tie.Need-gather-requires
 gather-requires c κs =
     let s = c .before .before .before .before .before in
     let bs = s .args .table .now in
     ((s .pre .0, s .pre .1, s .pre .2, taken-table bs (s .pre .0) .sizes .most-states), gathered-none (systemIn bs) (makesCount bs) (tableOf bs .pairs) _ (zeros-at 64))
 
-slice-aggregate-spread : tie.Need-slice-aggregate-spread
-slice-aggregate-spread c = search needs
-
 shared-slice-read-spread : tie.Need-shared-slice-read-spread
 shared-slice-read-spread c = omega (arith, taken-table _ (c .before .before .before .before .before .before .before .before .before .pre .0))
-
-cast-spread : tie.Need-cast-spread
-cast-spread c = search needs
 
 spread-requires : tie.Need-spread-requires
 spread-requires c κs =
@@ -38,9 +29,6 @@ spread-requires c κs =
     let bs = s .args .table .now in
     let size = c .before .before .before .before .gather .kept .1 .1 .1 .0 in
     (s .pre .1 .enough, s .pre .3, λ q l. rw (size, s .pre .1 .entry q l) (omega (arith, component-below (systemIn bs) q l, taken-table bs (s .pre .0))))
-
-same-length : tie.Need-same-length
-same-length c = search needs
 
 returns : tie.Need-returns
 returns c =
@@ -55,11 +43,11 @@ pub write-counted-spec : {M : Type 1} → statement M
 write-counted-spec =
     tie.close
     (tie.spec
-    slice-aggregate-gather
+    (λ c. search needs)
     gather-requires
-    slice-aggregate-spread
+    (λ c. search needs)
     shared-slice-read-spread
-    cast-spread
+    (λ c. search needs)
     spread-requires
-    same-length
+    (λ c. search needs)
     returns)

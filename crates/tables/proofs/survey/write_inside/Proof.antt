@@ -41,9 +41,6 @@ slice-write-inside c = omega (arith, c .before .before .loop .inv .1 .size, (c .
 add-q : tie.Need-add-q Inv-loop μ-loop
 add-q c = omega (arith, known (c .before .before .before .before .before .before .before))
 
-loop-less : tie.Need-loop-less Inv-loop μ-loop
-loop-less c = omega arith
-
 loop-again : tie.Need-loop-again Inv-loop μ-loop
 loop-again c =
     let s = c .before .before .before .before .before .before .before in
@@ -72,7 +69,7 @@ write-inside-spec =
     mul-inside
     slice-write-inside
     add-q
-    loop-less
+    (λ c. omega arith)
     loop-again
     same-length
     returns)

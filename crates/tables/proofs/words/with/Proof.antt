@@ -5,11 +5,8 @@ use Rattle.rules.proofs.Bits.{bit-or, bit-one, one-shifted}
 use Rattle.tables.proofs.words.with.Statement.{statement}
 use Rattle.tables.proofs.words.with.Tie as tie
 
-shl-result : tie.Need-shl-result
-shl-result c = search needs
-
 returns : tie.Need-returns
 returns c = λ j. rw (one-shifted 64 (c .args .q) (c .pre), bit-or j (c .args .set) (2 ^ c .args .q), bit-one (c .args .q) j)
 
 pub with-spec : {M : Type 1} → statement M
-with-spec = tie.close (tie.spec shl-result returns)
+with-spec = tie.close (tie.spec (λ c. search needs) returns)

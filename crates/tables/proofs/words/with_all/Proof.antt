@@ -6,9 +6,6 @@ use Rattle.rules.proofs.Bits.{bit-or}
 use Rattle.tables.proofs.words.with_all.Statement.{statement}
 use Rattle.tables.proofs.words.with_all.Tie as tie
 
-has-requires : tie.Need-has-requires
-has-requires c κs = search needs
-
 returns : tie.Need-returns
 returns c = λ j. rw (sym (c .before .has .ensures) ∙ c .if1 .taken) (bit-or j _ _)
 
@@ -16,4 +13,4 @@ returns-2 : tie.Need-returns-2
 returns-2 c = λ j. rw (sym (c .before .has .ensures) ∙ c .if1 .left) (sym (or-false _))
 
 pub with-all-spec : {M : Type 1} → statement M
-with-all-spec = tie.close (tie.spec has-requires returns returns-2)
+with-all-spec = tie.close (tie.spec (λ c κs. search needs) returns returns-2)
