@@ -4,15 +4,6 @@ use borrow.Author.Tests.{ne-eqb}
 use Rattle.records.proofs.with_digit.Statement.{statement}
 use Rattle.records.proofs.with_digit.Tie as tie
 
-mul-result : tie.Need-mul-result
-mul-result c = search needs
-
-cast-result : tie.Need-cast-result
-cast-result c = search needs
-
-add-result : tie.Need-add-result
-add-result c = search needs
-
 returns : tie.Need-returns
 returns c = rw (c .if1 .taken)
 
@@ -20,4 +11,6 @@ returns-2 : tie.Need-returns-2
 returns-2 c = rw (ne-eqb (c .before .before .before .args .pair .0) 0 (c .before .if1 .left))
 
 pub with-digit-spec : {M : Type 1} → statement M
-with-digit-spec = tie.close (tie.spec mul-result cast-result add-result returns returns-2)
+with-digit-spec =
+    tie.close
+    (tie.spec (λ c. search needs) (λ c. search needs) (λ c. search needs) returns returns-2)

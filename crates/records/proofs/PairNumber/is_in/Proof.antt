@@ -5,17 +5,10 @@ use Rattle.records.proofs.Packing.{marked-masked}
 use Rattle.records.proofs.PairNumber.is_in.Statement.{statement}
 use Rattle.records.proofs.PairNumber.is_in.Tie as tie
 
-cast-bit : tie.Need-cast-bit
-cast-bit c = search needs
-
-shl-bit : tie.Need-shl-bit
-shl-bit c = search needs
-
-mul-set : tie.Need-mul-set
-mul-set c = search needs
-
 returns : tie.Need-returns
 returns c = marked-masked (c .args .pairs) (c .args .self .0) (omega arith)
 
 pub is-in-spec : {M : Type 1} → statement M
-is-in-spec = tie.close (tie.spec cast-bit shl-bit mul-set returns)
+is-in-spec =
+    tie.close
+    (tie.spec (λ c. search needs) (λ c. search needs) (λ c. search needs) returns)

@@ -18,12 +18,6 @@ abbrev μ-loop : tie.MeasureT-loop
 loop-holds : tie.Need-loop-holds Inv-loop μ-loop
 loop-holds c = (omega arith, refl)
 
-pair-at-requires : tie.Need-pair-at-requires Inv-loop μ-loop
-pair-at-requires c κs = tt
-
-is-in-requires : tie.Need-is-in-requires Inv-loop μ-loop
-is-in-requires c κs = tt
-
 with-pair-requires : tie.Need-with-pair-requires Inv-loop μ-loop
 with-pair-requires c κs =
     let s = c .before .before .before .before .args in
@@ -31,12 +25,6 @@ with-pair-requires c κs =
       omega (arith, kept-below (isMarked (s .pairs)) (places (s .self .word)) (turn .p) 5 (omega arith) (places-below 6 (s .self .word))),
       omega (arith, c .before .pair-at .ensures, pair-below 6 (s .self .word) (turn .p)),
     )
-
-sub-p : tie.Need-sub-p Inv-loop μ-loop
-sub-p c = omega arith
-
-loop-less : tie.Need-loop-less Inv-loop μ-loop
-loop-less c = omega arith
 
 loop-again : tie.Need-loop-again Inv-loop μ-loop
 loop-again c =
@@ -61,10 +49,10 @@ front-spec =
     Inv-loop
     μ-loop
     loop-holds
-    pair-at-requires
-    is-in-requires
+    (λ c κs. tt)
+    (λ c κs. tt)
     with-pair-requires
-    sub-p
-    loop-less
+    (λ c. omega arith)
+    (λ c. omega arith)
     loop-again
     returns)

@@ -15,19 +15,10 @@ joined c =
     let s = c .before .before .args in
     moved-joined (isMarked (s .pairs)) (places (s .self .word)) (c .before .front .result) (c .rear .result) (c .before .front .ensures) (c .rear .ensures)
 
-front-requires : tie.Need-front-requires
-front-requires c κs = search needs
-
-rear-requires : tie.Need-rear-requires
-rear-requires c κs = search needs
-
 add-t5 : tie.Need-add-t5
 add-t5 c =
     let s = c .before .before .args in
     omega (arith, joined c, moved-small (isMarked (s .pairs)) (places (s .self .word)) 6 (places-below 6 (s .self .word)) (omega arith))
 
-returns : tie.Need-returns
-returns c = joined c
-
 pub moved-spec : {M : Type 1} → statement M
-moved-spec = tie.close (tie.spec front-requires rear-requires add-t5 returns)
+moved-spec = tie.close (tie.spec (λ c κs. search needs) (λ c κs. search needs) add-t5 joined)

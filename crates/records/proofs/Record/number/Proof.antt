@@ -25,20 +25,11 @@ abbrev μ-loop : tie.MeasureT-loop
 loop-holds : tie.Need-loop-holds Inv-loop μ-loop
 loop-holds c = (omega arith, refl)
 
-pair-at-requires : tie.Need-pair-at-requires Inv-loop μ-loop
-pair-at-requires c κs = tt
-
 with-digit-requires : tie.Need-with-digit-requires Inv-loop μ-loop
 with-digit-requires c κs =
     let p : ℕ = c .before .before .loop .p in
     let w : ℕ = c .before .before .before .args .self .word in
     (omega (arith, pow-le-pow-right {n = 10} (lit< tt) {i = p} {j = 6} (omega arith)), omega (arith, c .pair-at .ensures, pair-below 6 w p))
-
-add-p : tie.Need-add-p Inv-loop μ-loop
-add-p c = omega arith
-
-loop-less : tie.Need-loop-less Inv-loop μ-loop
-loop-less c = omega arith
 
 loop-again : tie.Need-loop-again Inv-loop μ-loop
 loop-again c =
@@ -63,9 +54,9 @@ number-spec =
     Inv-loop
     μ-loop
     loop-holds
-    pair-at-requires
+    (λ c κs. tt)
     with-digit-requires
-    add-p
-    loop-less
+    (λ c. omega arith)
+    (λ c. omega arith)
     loop-again
     returns)

@@ -15,17 +15,13 @@ sub-shift c = position-within 6 (c .before .args .at .0) (c .if1 .left) .0
 mul-shift : tie.Need-mul-shift
 mul-shift c = omega (arith, position-within 6 (c .before .args .at .0) (c .if1 .left) .1)
 
-cast-t9 : tie.Need-cast-t9
-cast-t9 c = search needs
-
 shr-t10 : tie.Need-shr-t10
 shr-t10 c = omega (arith, position-within 6 (c .before .before .args .at .0) (c .before .if1 .left) .1)
-
-cast-t8 : tie.Need-cast-t8
-cast-t8 c = search needs
 
 returns-2 : tie.Need-returns-2
 returns-2 c = pair-shifted 6 (c .before .before .args .self .word) (c .before .before .args .at .0) (c .before .if1 .left)
 
 pub pair-at-spec : {M : Type 1} → statement M
-pair-at-spec = tie.close (tie.spec returns sub-shift mul-shift cast-t9 shr-t10 cast-t8 returns-2)
+pair-at-spec =
+    tie.close
+    (tie.spec returns sub-shift mul-shift (λ c. search needs) shr-t10 (λ c. search needs) returns-2)

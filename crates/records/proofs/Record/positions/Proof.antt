@@ -34,9 +34,6 @@ module _ (c : tie.At-loop Inv-loop μ-loop) where
 loop-holds : tie.Need-loop-holds Inv-loop μ-loop
 loop-holds c = (omega arith, refl)
 
-pair-at-requires : tie.Need-pair-at-requires Inv-loop μ-loop
-pair-at-requires c κs = tt
-
 mul-at : tie.Need-mul-at Inv-loop μ-loop
 mul-at c = omega (arith, found-small (c .before .before))
 
@@ -50,12 +47,6 @@ add-at c =
     let s = t .before .args in
     let i : ℕ = c .before .pair-at .result .0 in
     omega (arith, found-small t, c .marks-of .ensures, marks-few (isMarked (s .prohibited) i) (isMarked (s .required) i))
-
-sub-p : tie.Need-sub-p Inv-loop μ-loop
-sub-p c = omega arith
-
-loop-less : tie.Need-loop-less Inv-loop μ-loop
-loop-less c = omega arith
 
 loop-again : tie.Need-loop-again Inv-loop μ-loop
 loop-again c =
@@ -80,11 +71,11 @@ positions-spec =
     Inv-loop
     μ-loop
     loop-holds
-    pair-at-requires
+    (λ c κs. tt)
     mul-at
     marks-of-requires
     add-at
-    sub-p
-    loop-less
+    (λ c. omega arith)
+    (λ c. omega arith)
     loop-again
     returns)

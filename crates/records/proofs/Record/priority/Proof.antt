@@ -19,27 +19,6 @@ Inv-loop self prohibited required best₀ p₀ best p =
 abbrev μ-loop : tie.MeasureT-loop
 μ-loop self prohibited required best₀ p₀ best p = 7 - p
 
-loop-holds : tie.Need-loop-holds Inv-loop μ-loop
-loop-holds c = refl
-
-pair-at-requires : tie.Need-pair-at-requires Inv-loop μ-loop
-pair-at-requires c κs = tt
-
-is-in-requires : tie.Need-is-in-requires Inv-loop μ-loop
-is-in-requires c κs = tt
-
-is-in-requires-2 : tie.Need-is-in-requires-2 Inv-loop μ-loop
-is-in-requires-2 c κs = tt
-
-decided-requires : tie.Need-decided-requires Inv-loop μ-loop
-decided-requires c κs = omega arith
-
-add-p : tie.Need-add-p Inv-loop μ-loop
-add-p c = omega arith
-
-loop-less : tie.Need-loop-less Inv-loop μ-loop
-loop-less c = omega arith
-
 loop-again : tie.Need-loop-again Inv-loop μ-loop
 loop-again c =
     let s = c .before .before .before .before .before .before .args in
@@ -64,12 +43,12 @@ priority-spec =
     (tie.spec
     Inv-loop
     μ-loop
-    loop-holds
-    pair-at-requires
-    is-in-requires
-    is-in-requires-2
-    decided-requires
-    add-p
-    loop-less
+    (λ c. refl)
+    (λ c κs. tt)
+    (λ c κs. tt)
+    (λ c κs. tt)
+    (λ c κs. omega arith)
+    (λ c. omega arith)
+    (λ c. omega arith)
     loop-again
     returns)

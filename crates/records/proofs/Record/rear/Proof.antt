@@ -30,20 +30,8 @@ pair-small c = omega (arith, c .pair-at .ensures, pair-below 6 (c .before .befor
 loop-holds : tie.Need-loop-holds Inv-loop μ-loop
 loop-holds c = (omega arith, refl)
 
-pair-at-requires : tie.Need-pair-at-requires Inv-loop μ-loop
-pair-at-requires c κs = tt
-
-is-in-requires : tie.Need-is-in-requires Inv-loop μ-loop
-is-in-requires c κs = tt
-
 with-last-requires : tie.Need-with-last-requires Inv-loop μ-loop
 with-last-requires c κs = (c .before .before .before .loop .inv .0, pair-small (c .before))
-
-add-p : tie.Need-add-p Inv-loop μ-loop
-add-p c = omega arith
-
-loop-less : tie.Need-loop-less Inv-loop μ-loop
-loop-less c = omega arith
 
 loop-again : tie.Need-loop-again Inv-loop μ-loop
 loop-again c =
@@ -71,10 +59,10 @@ rear-spec =
     Inv-loop
     μ-loop
     loop-holds
-    pair-at-requires
-    is-in-requires
+    (λ c κs. tt)
+    (λ c κs. tt)
     with-last-requires
-    add-p
-    loop-less
+    (λ c. omega arith)
+    (λ c. omega arith)
     loop-again
     returns)

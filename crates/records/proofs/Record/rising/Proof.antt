@@ -23,19 +23,10 @@ abbrev μ-loop : tie.MeasureT-loop
 loop-holds : tie.Need-loop-holds Inv-loop μ-loop
 loop-holds c = (omega arith, refl)
 
-is-in-requires : tie.Need-is-in-requires Inv-loop μ-loop
-is-in-requires c κs = tt
-
 with-pair-requires : tie.Need-with-pair-requires Inv-loop μ-loop
 with-pair-requires c κs =
     let b = isMarked (c .before .before .before .args .pairs) in
     (omega (arith, kept-below b all (c .before .before .loop .i) 5 (omega arith) (rising-below 6 1 (omega arith))), omega arith)
-
-sub-i : tie.Need-sub-i Inv-loop μ-loop
-sub-i c = omega arith
-
-loop-less : tie.Need-loop-less Inv-loop μ-loop
-loop-less c = omega arith
 
 loop-again : tie.Need-loop-again Inv-loop μ-loop
 loop-again c =
@@ -58,9 +49,9 @@ rising-spec =
     Inv-loop
     μ-loop
     loop-holds
-    is-in-requires
+    (λ c κs. tt)
     with-pair-requires
-    sub-i
-    loop-less
+    (λ c. omega arith)
+    (λ c. omega arith)
     loop-again
     returns)
