@@ -35,18 +35,6 @@ module _ (c : tie.Else1) where
       → ParitySays (s .args .rows) (s .args .letters) (s .args .targets .now) (s .args .priorities .now) (s .args .lead .now) (s .args .looped .now) (answerOf r)
   judged r h = rw (taken .0, taken .1) h
 
-parity-fault-requires : tie.Need-parity-fault-requires
-parity-fault-requires c κs = search needs
-
-byte-of-requires : tie.Need-byte-of-requires
-byte-of-requires c κs = search needs
-
-word-fault-requires : tie.Need-word-fault-requires
-word-fault-requires c κs = search needs
-
-first-fault-requires : tie.Need-first-fault-requires
-first-fault-requires c κs = search needs
-
 returns : tie.Need-returns
 returns c = rw (← refusal (c .before)) (refused-given _ _ (c .if1 .taken))
 
@@ -72,10 +60,10 @@ pub judge-parity-spec : {M : Type 1} → statement M
 judge-parity-spec =
     tie.close
     (tie.spec
-    parity-fault-requires
-    byte-of-requires
-    word-fault-requires
-    first-fault-requires
+    (λ c κs. search needs)
+    (λ c κs. search needs)
+    (λ c κs. search needs)
+    (λ c κs. search needs)
     returns
     judge-few-requires
     returns-2

@@ -26,29 +26,8 @@ module _ (c : tie.After-first-fault) where
 taken : (c : tie.Else1) → let s = start (c .before) in Taken (s .args .table .now) × (wordFault (tableOf (s .args .table .now) .letters) (s .args .lead .now) (s .args .looped .now) ≡ 0)
 taken c = first-zero _ _ (sym (refusal (c .before)) ∙ c .if1 .left)
 
-check-table-requires : tie.Need-check-table-requires
-check-table-requires c κs = search needs
-
-letters-of-requires : tie.Need-letters-of-requires
-letters-of-requires c κs = search needs
-
-word-fault-requires : tie.Need-word-fault-requires
-word-fault-requires c κs = search needs
-
-first-fault-requires : tie.Need-first-fault-requires
-first-fault-requires c κs = search needs
-
 returns : tie.Need-returns
 returns c = rw (← refusal (c .before)) (refused-given _ _ (c .if1 .taken))
-
-slice-aggregate-judge-word : tie.Need-slice-aggregate-judge-word
-slice-aggregate-judge-word c = search needs
-
-slice-aggregate-judge-word-2 : tie.Need-slice-aggregate-judge-word-2
-slice-aggregate-judge-word-2 c = search needs
-
-slice-aggregate-judge-word-3 : tie.Need-slice-aggregate-judge-word-3
-slice-aggregate-judge-word-3 c = search needs
 
 judge-word-requires : tie.Need-judge-word-requires
 judge-word-requires c κs =
@@ -63,13 +42,13 @@ pub judge-rabin-spec : {M : Type 1} → statement M
 judge-rabin-spec =
     tie.close
     (tie.spec
-    check-table-requires
-    letters-of-requires
-    word-fault-requires
-    first-fault-requires
+    (λ c κs. search needs)
+    (λ c κs. search needs)
+    (λ c κs. search needs)
+    (λ c κs. search needs)
     returns
-    slice-aggregate-judge-word
-    slice-aggregate-judge-word-2
-    slice-aggregate-judge-word-3
+    (λ c. search needs)
+    (λ c. search needs)
+    (λ c. search needs)
     judge-word-requires
     returns-2)

@@ -174,9 +174,6 @@ part-peak-of-start c = omega (arith, between (c .before), fits (c .before))
 part-peak-of-end : tie.Need-part-peak-of-end Inv-loop μ-loop
 part-peak-of-end c = omega (arith, between (c .before), fits (c .before))
 
-peak-of-requires : tie.Need-peak-of-requires Inv-loop μ-loop
-peak-of-requires c κs = tt
-
 same-length-3 : tie.Need-same-length-3 Inv-loop μ-loop
 same-length-3 c = c .before .before .before .before .before .loop .inv .3
 
@@ -226,7 +223,7 @@ judge-word-spec =
     sub-peak-of
     part-peak-of-start
     part-peak-of-end
-    peak-of-requires
+    (λ c κs. tt)
     same-length-3
     same-length-4
     returns-3

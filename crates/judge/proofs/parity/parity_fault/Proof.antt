@@ -17,9 +17,6 @@ use Rattle.judge.proofs.parity.parity_fault.Tie as tie
 limits : (c : tie.Else1) → let a = c .before .before .before .args in (a .rows ≤ maxRows) × (a .rows * a .letters ≤ maxRows * maxLetters)
 limits c = within-limits _ _ (c .if1 .left)
 
-cast-if1 : tie.Need-cast-if1
-cast-if1 c = search needs
-
 returns : tie.Need-returns
 returns c = rw (parity-tests, c .if1 .taken)
 
@@ -38,9 +35,6 @@ slice-aggregate-target-fault c =
 cast-target-fault : tie.Need-cast-target-fault
 cast-target-fault c = omega (arith, limits (c .before .before))
 
-target-fault-requires : tie.Need-target-fault-requires
-target-fault-requires c κs = search needs
-
 returns-3 : tie.Need-returns-3
 returns-3 c =
     let two = c .before .before .before in
@@ -55,12 +49,12 @@ pub parity-fault-spec : {M : Type 1} → statement M
 parity-fault-spec =
     tie.close
     (tie.spec
-    cast-if1
+    (λ c. search needs)
     returns
     mul-cells
     returns-2
     slice-aggregate-target-fault
     cast-target-fault
-    target-fault-requires
+    (λ c κs. search needs)
     returns-3
     returns-4)

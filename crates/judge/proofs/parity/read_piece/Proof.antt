@@ -10,7 +10,7 @@ use lib.ListN.{length, getD, take, drop}
 use lib.Seq.{take-all}
 use Rattle.rules.specs.Limits.{noRow}
 use Rattle.rules.specs.Judges.{paritySystem, priorityAt}
-use Rattle.rules.specs.Runs.{passFrom, taken}
+use Rattle.rules.specs.Runs.{passFrom}
 use Rattle.rules.specs.Systems.{System, Path, here}
 use Rattle.rules.proofs.Arrays.{getD-any}
 use Rattle.rules.proofs.Refusals.{TakenParity, taken-parity}
@@ -65,9 +65,6 @@ module _ (c : tie.In-loop Inv-loop μ-loop) where
   goes : system .go place letter ≡ found
   goes = getD-any (s .args .targets .now) (place * s .args .letters + letter) noRow 0 (omega (arith, within, table .target-cells)) ∙ sym cell-found
 
-shared-slice-read-letter : tie.Need-shared-slice-read-letter Inv-loop μ-loop
-shared-slice-read-letter c = omega arith
-
 cast-letter : tie.Need-cast-letter Inv-loop μ-loop
 cast-letter c = omega (arith, letter-ok (c .before), table (c .before) .most-letters)
 
@@ -109,15 +106,6 @@ add-larger c = omega (arith, within (c .before .before .before .before), table (
 shared-slice-read-larger : tie.Need-shared-slice-read-larger Inv-loop μ-loop
 shared-slice-read-larger c = omega (arith, within (c .before .before .before .before .before), table (c .before .before .before .before .before) .priority-cells)
 
-larger-requires : tie.Need-larger-requires Inv-loop μ-loop
-larger-requires c κs = tt
-
-add-i : tie.Need-add-i Inv-loop μ-loop
-add-i c = omega arith
-
-loop-less : tie.Need-loop-less Inv-loop μ-loop
-loop-less c = omega arith
-
 loop-again : tie.Need-loop-again Inv-loop μ-loop
 loop-again c =
     let t = c .before .before .before .before .before .before in
@@ -137,7 +125,7 @@ read-piece-spec =
     Inv-loop
     μ-loop
     loop-holds
-    shared-slice-read-letter
+    (λ c. omega arith)
     cast-letter
     mul-first
     mul-column
@@ -150,8 +138,8 @@ read-piece-spec =
     returns
     add-larger
     shared-slice-read-larger
-    larger-requires
-    add-i
-    loop-less
+    (λ c κs. tt)
+    (λ c. omega arith)
+    (λ c. omega arith)
     loop-again
     returns-2)

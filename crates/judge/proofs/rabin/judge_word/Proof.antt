@@ -202,9 +202,6 @@ part-union-of-start c = omega (arith, between (c .before), fits (c .before))
 part-union-of-end : tie.Need-part-union-of-end Inv-loop μ-loop
 part-union-of-end c = omega (arith, between (c .before), fits (c .before))
 
-union-of-requires : tie.Need-union-of-requires Inv-loop μ-loop
-union-of-requires c κs = tt
-
 sub-union-of-2 : tie.Need-sub-union-of-2 Inv-loop μ-loop
 sub-union-of-2 c = omega (arith, between (c .before .before .before))
 
@@ -213,9 +210,6 @@ part-union-of-start-2 c = omega (arith, between (c .before .before .before .befo
 
 part-union-of-end-2 : tie.Need-part-union-of-end-2 Inv-loop μ-loop
 part-union-of-end-2 c = omega (arith, between (c .before .before .before .before), fits (c .before .before .before .before))
-
-union-of-requires-2 : tie.Need-union-of-requires-2 Inv-loop μ-loop
-union-of-requires-2 c κs = tt
 
 same-length-4 : tie.Need-same-length-4 Inv-loop μ-loop
 same-length-4 c = c .before .before .before .before .before .before .before .before .loop .inv .5
@@ -278,11 +272,11 @@ judge-word-spec =
     sub-union-of
     part-union-of-start
     part-union-of-end
-    union-of-requires
+    (λ c κs. tt)
     sub-union-of-2
     part-union-of-start-2
     part-union-of-end-2
-    union-of-requires-2
+    (λ c κs. tt)
     same-length-4
     same-length-5
     same-length-6

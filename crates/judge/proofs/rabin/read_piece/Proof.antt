@@ -182,15 +182,6 @@ add-marks-word c = omega (arith, placed (c .before .before .before .before .befo
 shared-slice-read-marks-word-2 : tie.Need-shared-slice-read-marks-word-2 Inv-loop μ-loop
 shared-slice-read-marks-word-2 c = omega (arith, placed (c .before .before .before .before .before .before))
 
-marks-word-requires : tie.Need-marks-word-requires Inv-loop μ-loop
-marks-word-requires c κs = search needs
-
-add-i : tie.Need-add-i Inv-loop μ-loop
-add-i c = omega arith
-
-loop-less : tie.Need-loop-less Inv-loop μ-loop
-loop-less c = omega arith
-
 loop-again : tie.Need-loop-again Inv-loop μ-loop
 loop-again c =
     let x = c .before .before .before .before .before .before .before in
@@ -210,9 +201,6 @@ loop-again c =
       rw (word, joined-low w u v lu) (meets x (prohibitedMarks (tableOf (bs x))) (w % 256) u barred (held .3)),
       rw (word, joined-high w u v lu) (meets x (requiredMarks (tableOf (bs x))) (w / 256) v asked (held .4)),
     )
-
-cast-prohibited : tie.Need-cast-prohibited Inv-loop μ-loop
-cast-prohibited c = omega arith
 
 cast-required : tie.Need-cast-required Inv-loop μ-loop
 cast-required c = omega (arith, c .before .loop .inv .2)
@@ -256,10 +244,10 @@ read-piece-spec =
     shared-slice-read-marks-word
     add-marks-word
     shared-slice-read-marks-word-2
-    marks-word-requires
-    add-i
-    loop-less
+    (λ c κs. search needs)
+    (λ c. omega arith)
+    (λ c. omega arith)
     loop-again
-    cast-prohibited
+    (λ c. omega arith)
     cast-required
     returns-2)

@@ -5,21 +5,12 @@ use Rattle.judge.specs.Sizes.{fewRows}
 use Rattle.judge.proofs.sizes.judge_few.Statement.{statement}
 use Rattle.judge.proofs.sizes.judge_few.Tie as tie
 
-slice-aggregate-judge-word : tie.Need-slice-aggregate-judge-word
-slice-aggregate-judge-word c = search needs
-
-slice-aggregate-judge-word-2 : tie.Need-slice-aggregate-judge-word-2
-slice-aggregate-judge-word-2 c = search needs
-
 judge-word-requires : tie.Need-judge-word-requires
 judge-word-requires c κs =
     let p = c .before .before .before .before .before .before .pre in
     (p .0, p .1, record { enough = p .2; none = zeros-at fewRows }, p .2)
 
-returns : tie.Need-returns
-returns c = search needs
-
 pub judge-few-spec : {M : Type 1} → statement M
 judge-few-spec =
     tie.close
-    (tie.spec slice-aggregate-judge-word slice-aggregate-judge-word-2 judge-word-requires returns)
+    (tie.spec (λ c. search needs) (λ c. search needs) judge-word-requires (λ c. search needs))

@@ -6,12 +6,6 @@ use Rattle.rules.proofs.Refusals.{taken-parity}
 use Rattle.judge.proofs.sizes.judge_many.Statement.{statement}
 use Rattle.judge.proofs.sizes.judge_many.Tie as tie
 
-slice-aggregate-judge-word : tie.Need-slice-aggregate-judge-word
-slice-aggregate-judge-word c = search needs
-
-slice-aggregate-judge-word-2 : tie.Need-slice-aggregate-judge-word-2
-slice-aggregate-judge-word-2 c = search needs
-
 judge-word-requires : tie.Need-judge-word-requires
 judge-word-requires c κs =
     let s = c .before .before .before .before .before .before in
@@ -19,10 +13,7 @@ judge-word-requires c κs =
     let most = taken-parity (s .args .rows) (s .args .letters) (s .args .targets .now) (s .args .priorities .now) (p .0) .most-rows in
     (p .0, p .1, record { enough = most; none = zeros-at maxRows }, most)
 
-returns : tie.Need-returns
-returns c = search needs
-
 pub judge-many-spec : {M : Type 1} → statement M
 judge-many-spec =
     tie.close
-    (tie.spec slice-aggregate-judge-word slice-aggregate-judge-word-2 judge-word-requires returns)
+    (tie.spec (λ c. search needs) (λ c. search needs) judge-word-requires (λ c. search needs))

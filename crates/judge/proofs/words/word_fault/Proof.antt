@@ -6,12 +6,6 @@ use Rattle.judge.proofs.words.word_fault.Tie as tie
 returns : tie.Need-returns
 returns c = rw (c .if1 .taken)
 
-has-stray-requires : tie.Need-has-stray-requires
-has-stray-requires c κs = search needs
-
-has-stray-requires-2 : tie.Need-has-stray-requires-2
-has-stray-requires-2 c κs = search needs
-
 returns-2 : tie.Need-returns-2
 returns-2 c =
     let strays = c .before in
@@ -24,4 +18,5 @@ returns-3 c =
 
 pub word-fault-spec : {M : Type 1} → statement M
 word-fault-spec =
-    tie.close (tie.spec returns has-stray-requires has-stray-requires-2 returns-2 returns-3)
+    tie.close
+    (tie.spec returns (λ c κs. search needs) (λ c κs. search needs) returns-2 returns-3)
