@@ -18,26 +18,8 @@ module _ (c : tie.Else1) where
   done : TranslateSays (start .args .table .now) (start .args .capacity) (start .args .targets .now) (found .translate-table .last .1 .1 .0) (start .args .priorities .now) (found .translate-table .last .1 .1 .1 .0) (start .args .sources .now) (found .translate-table .last .1 .1 .1 .1 .0) (start .args .records .now) (found .translate-table .last .1 .1 .1 .1 .1 .0) 0 (found .translate-table .result .rows)
   done = success (c .if1 .left) (found .translate-table .ensures .0)
 
-translate-table-requires : tie.Need-translate-table-requires
-translate-table-requires c κs = search needs
-
 put-refusal-requires : tie.Need-put-refusal-requires
 put-refusal-requires c κs = refused-reach _ (omega arith)
-
-same-length : tie.Need-same-length
-same-length c = search needs
-
-same-length-2 : tie.Need-same-length-2
-same-length-2 c = search needs
-
-same-length-3 : tie.Need-same-length-3
-same-length-3 c = search needs
-
-same-length-4 : tie.Need-same-length-4
-same-length-4 c = search needs
-
-same-length-5 : tie.Need-same-length-5
-same-length-5 c = search needs
 
 returns : tie.Need-returns
 returns c =
@@ -63,21 +45,6 @@ put-table-requires c κs =
     let records = s .before .slice-known9 .given in
     (lines-reach _ (room .most-letters) _ _ (λ i. omega (arith, targets i)) (λ i. omega (arith, priorities i)) _ _ _ _ (room .most-rows) (omega (arith, taken (done s))) (λ i. omega (arith, sources i)) (λ i. omega (arith, records i)), room)
 
-same-length-6 : tie.Need-same-length-6
-same-length-6 c = search needs
-
-same-length-7 : tie.Need-same-length-7
-same-length-7 c = search needs
-
-same-length-8 : tie.Need-same-length-8
-same-length-8 c = search needs
-
-same-length-9 : tie.Need-same-length-9
-same-length-9 c = search needs
-
-same-length-10 : tie.Need-same-length-10
-same-length-10 c = search needs
-
 returns-2 : tie.Need-returns-2
 returns-2 c =
     let s = c .before .before .before .before .before .before .before .before .before .before in
@@ -87,21 +54,21 @@ pub list-table-spec : {M : Type 1} → statement M
 list-table-spec =
     tie.close
     (tie.spec
-    translate-table-requires
+    (λ c κs. search needs)
     put-refusal-requires
-    same-length
-    same-length-2
-    same-length-3
-    same-length-4
-    same-length-5
+    (λ c. search needs)
+    (λ c. search needs)
+    (λ c. search needs)
+    (λ c. search needs)
+    (λ c. search needs)
     returns
     shared-slice-read-letters
     cast-letters
     shared-slice-read-pairs
     put-table-requires
-    same-length-6
-    same-length-7
-    same-length-8
-    same-length-9
-    same-length-10
+    (λ c. search needs)
+    (λ c. search needs)
+    (λ c. search needs)
+    (λ c. search needs)
+    (λ c. search needs)
     returns-2)

@@ -60,9 +60,6 @@ put-optional-requires-3 : tie.Need-put-optional-requires-3
 unfolding line
 put-optional-requires-3 c κs = record { ends = omega (arith, simp length-append at (start (row-written (state-written (record-written (letter-written (c .before .before .before))))) .pre .ends)) }
 
-same-length : tie.Need-same-length
-same-length c = search needs
-
 pub put-line-spec : {M : Type 1} → statement M
 put-line-spec =
     tie.close
@@ -73,5 +70,5 @@ put-line-spec =
     put-field-requires-3
     put-optional-requires-2
     put-optional-requires-3
-    same-length
+    (λ c. search needs)
     returns)

@@ -5,18 +5,9 @@ use Rattle.listing_text.proofs.Writing.{wrote-both, reach-then}
 use Rattle.listing_text.proofs.lines.put_refusal.Statement.{statement}
 use Rattle.listing_text.proofs.lines.put_refusal.Tie as tie
 
-slice-aggregate-put-bytes : tie.Need-slice-aggregate-put-bytes
-slice-aggregate-put-bytes c = search needs
-
-put-bytes-requires : tie.Need-put-bytes-requires
-put-bytes-requires c κs = search needs
-
 put-field-requires : tie.Need-put-field-requires
 unfolding refused
 put-field-requires c κs = reach-then _ (c .before .before .before .before .before .before .before .pre) (c .before .before .before .put-bytes .ensures)
-
-same-length : tie.Need-same-length
-same-length c = search needs
 
 returns : tie.Need-returns
 unfolding refused
@@ -25,4 +16,9 @@ returns c = wrote-both (c .before .before .before .before .before .before .put-b
 pub put-refusal-spec : {M : Type 1} → statement M
 put-refusal-spec =
     tie.close
-    (tie.spec slice-aggregate-put-bytes put-bytes-requires put-field-requires same-length returns)
+    (tie.spec
+    (λ c. search needs)
+    (λ c κs. search needs)
+    put-field-requires
+    (λ c. search needs)
+    returns)

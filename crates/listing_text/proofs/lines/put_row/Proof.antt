@@ -22,28 +22,10 @@ loop-holds : tie.Need-loop-holds Inv-loop μ-loop
 unfolding each
 loop-holds c = (omega arith, wrote-none _ _)
 
-mul-cell : tie.Need-mul-cell Inv-loop μ-loop
-mul-cell c = omega arith
-
-add-cell : tie.Need-add-cell Inv-loop μ-loop
-add-cell c = omega arith
-
-cast-put-line : tie.Need-cast-put-line Inv-loop μ-loop
-cast-put-line c = omega arith
-
-cast-put-line-2 : tie.Need-cast-put-line-2 Inv-loop μ-loop
-cast-put-line-2 c = omega arith
-
 mul-put-line : tie.Need-mul-put-line Inv-loop μ-loop
 mul-put-line c =
     let s = c .before .before .before .before .before .before in
     omega (arith, row-ends maxRows (s .args .m) (s .args .row) (s .pre .2))
-
-shared-slice-read-put-line : tie.Need-shared-slice-read-put-line Inv-loop μ-loop
-shared-slice-read-put-line c = omega arith
-
-shared-slice-read-put-line-2 : tie.Need-shared-slice-read-put-line-2 Inv-loop μ-loop
-shared-slice-read-put-line-2 c = omega arith
 
 put-line-requires : tie.Need-put-line-requires Inv-loop μ-loop
 unfolding rowLines
@@ -51,12 +33,6 @@ put-line-requires c κs =
     let s = c .before .before .before .before .before .before .before .before in
     let text = lineAt (s .args .m) (s .args .targets .now) (s .args .priorities .now) (s .args .row) (s .args .state) (s .args .number) in
     reach-next text (s .pre .0) (c .before .before .before .loop-test .taken) (c .before .before .before .before .loop .inv .1)
-
-add-a : tie.Need-add-a Inv-loop μ-loop
-add-a c = omega arith
-
-loop-less : tie.Need-loop-less Inv-loop μ-loop
-loop-less c = omega arith
 
 loop-again : tie.Need-loop-again Inv-loop μ-loop
 loop-again c =
@@ -78,16 +54,16 @@ put-row-spec =
     Inv-loop
     μ-loop
     loop-holds
-    mul-cell
-    add-cell
-    cast-put-line
-    cast-put-line-2
+    (λ c. omega arith)
+    (λ c. omega arith)
+    (λ c. omega arith)
+    (λ c. omega arith)
     mul-put-line
-    shared-slice-read-put-line
-    shared-slice-read-put-line-2
+    (λ c. omega arith)
+    (λ c. omega arith)
     put-line-requires
-    add-a
-    loop-less
+    (λ c. omega arith)
+    (λ c. omega arith)
     loop-again
     same-length
     returns)

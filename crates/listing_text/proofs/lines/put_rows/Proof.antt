@@ -21,15 +21,6 @@ loop-holds : tie.Need-loop-holds Inv-loop μ-loop
 unfolding each
 loop-holds c = (omega arith, wrote-none _ _)
 
-shared-slice-read-put-row : tie.Need-shared-slice-read-put-row Inv-loop μ-loop
-shared-slice-read-put-row c = omega arith
-
-mul-put-row : tie.Need-mul-put-row Inv-loop μ-loop
-mul-put-row c = omega arith
-
-shared-slice-read-put-row-2 : tie.Need-shared-slice-read-put-row-2 Inv-loop μ-loop
-shared-slice-read-put-row-2 c = omega arith
-
 put-row-requires : tie.Need-put-row-requires Inv-loop μ-loop
 unfolding lines
 put-row-requires c κs =
@@ -38,12 +29,6 @@ put-row-requires c κs =
     let ends = row-ends _ (s .args .m) _ test in
     let text = linesAt (s .args .m) (s .args .targets .now) (s .args .priorities .now) (s .args .sources .now) (s .args .records .now) in
     (reach-next text (s .pre .0) test (c .before .before .before .before .loop .inv .1), s .pre .1 .most-letters, omega arith, omega arith, omega arith)
-
-add-i : tie.Need-add-i Inv-loop μ-loop
-add-i c = omega arith
-
-loop-less : tie.Need-loop-less Inv-loop μ-loop
-loop-less c = omega arith
 
 loop-again : tie.Need-loop-again Inv-loop μ-loop
 loop-again c =
@@ -65,12 +50,12 @@ put-rows-spec =
     Inv-loop
     μ-loop
     loop-holds
-    shared-slice-read-put-row
-    mul-put-row
-    shared-slice-read-put-row-2
+    (λ c. omega arith)
+    (λ c. omega arith)
+    (λ c. omega arith)
     put-row-requires
-    add-i
-    loop-less
+    (λ c. omega arith)
+    (λ c. omega arith)
     loop-again
     same-length
     returns)

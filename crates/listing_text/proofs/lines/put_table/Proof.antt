@@ -35,9 +35,6 @@ put-field-requires : tie.Need-put-field-requires
 unfolding head
 put-field-requires c κs = record { ends = omega (arith, simp length-append at (c .before .before .before .before .before .before .pre .0 .ends)) }
 
-cast-put-field-2 : tie.Need-cast-put-field-2
-cast-put-field-2 c = search needs
-
 put-field-requires-2 : tie.Need-put-field-requires-2
 unfolding head
 put-field-requires-2 c κs = record { ends = omega (arith, simp length-append at (start (c .before .before .before) .pre .0 .ends)) }
@@ -52,18 +49,15 @@ put-rows-requires c κs =
     let s = start (rows-written (letters-written (c .before .before .before))) in
     (record { ends = omega (arith, simp length-append at (s .pre .0 .ends)) }, s .pre .1)
 
-same-length : tie.Need-same-length
-same-length c = search needs
-
 pub put-table-spec : {M : Type 1} → statement M
 put-table-spec =
     tie.close
     (tie.spec
     cast-put-field
     put-field-requires
-    cast-put-field-2
+    (λ c. search needs)
     put-field-requires-2
     put-field-requires-3
     put-rows-requires
-    same-length
+    (λ c. search needs)
     returns)

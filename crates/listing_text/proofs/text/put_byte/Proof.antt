@@ -7,12 +7,6 @@ use Rattle.listing_text.proofs.Writing.{wrote-length}
 use Rattle.listing_text.proofs.text.put_byte.Statement.{statement}
 use Rattle.listing_text.proofs.text.put_byte.Tie as tie
 
-slice-write-out : tie.Need-slice-write-out
-slice-write-out c = search needs
-
-add-result : tie.Need-add-result
-add-result c = search needs
-
 returns : tie.Need-returns
 returns c =
     record {
@@ -24,4 +18,4 @@ same-length : tie.Need-same-length
 same-length c = wrote-length (returns c)
 
 pub put-byte-spec : {M : Type 1} → statement M
-put-byte-spec = tie.close (tie.spec slice-write-out add-result same-length returns)
+put-byte-spec = tie.close (tie.spec (λ c. search needs) (λ c. search needs) same-length returns)

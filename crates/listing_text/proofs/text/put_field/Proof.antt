@@ -13,12 +13,11 @@ put-byte-requires : tie.Need-put-byte-requires
 unfolding field
 put-byte-requires c κs = reach-then _ (c .before .before .before .before .before .before .pre) (c .before .before .before .put-numeral .ensures)
 
-same-length : tie.Need-same-length
-same-length c = search needs
-
 returns : tie.Need-returns
 unfolding field
 returns c = wrote-both (c .before .before .before .before .before .before .put-numeral .ensures) (c .before .before .put-byte .ensures)
 
 pub put-field-spec : {M : Type 1} → statement M
-put-field-spec = tie.close (tie.spec put-numeral-requires put-byte-requires same-length returns)
+put-field-spec =
+    tie.close
+    (tie.spec put-numeral-requires put-byte-requires (λ c. search needs) returns)

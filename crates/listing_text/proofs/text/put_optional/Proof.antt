@@ -15,9 +15,6 @@ put-byte-requires-2 : tie.Need-put-byte-requires-2
 unfolding optional
 put-byte-requires-2 c κs = reach-then _ (rw (c .before .before .before .before .before .if1 .taken) at (c .before .before .before .before .before .before .before .pre)) (c .before .before .before .put-byte .ensures)
 
-same-length : tie.Need-same-length
-same-length c = search needs
-
 returns : tie.Need-returns
 unfolding optional
 returns c = rw (c .before .before .before .before .before .before .before .before .if1 .taken) (wrote-both (c .before .before .before .before .before .before .put-byte .ensures) (c .before .before .put-byte2 .ensures))
@@ -25,9 +22,6 @@ returns c = rw (c .before .before .before .before .before .before .before .befor
 put-field-requires : tie.Need-put-field-requires
 unfolding field optional
 put-field-requires c κs = rw (c .before .if1 .left) at (c .before .before .before .pre)
-
-same-length-2 : tie.Need-same-length-2
-same-length-2 c = search needs
 
 returns-2 : tie.Need-returns-2
 unfolding field optional
@@ -39,8 +33,8 @@ put-optional-spec =
     (tie.spec
     put-byte-requires
     put-byte-requires-2
-    same-length
+    (λ c. search needs)
     returns
     put-field-requires
-    same-length-2
+    (λ c. search needs)
     returns-2)
