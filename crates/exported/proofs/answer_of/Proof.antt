@@ -5,21 +5,6 @@ use Rattle.judge.specs.Judgements.{answerOf}
 use Rattle.exported.proofs.answer_of.Statement.{statement}
 use Rattle.exported.proofs.answer_of.Tie as tie
 
-enum-told : tie.Need-enum-told
-enum-told c = search needs
-
-enum-told-2 : tie.Need-enum-told-2
-enum-told-2 c = search needs
-
-enum-known-judged : tie.Need-enum-known-judged
-enum-known-judged c = search needs
-
-enum-known-judged-2 : tie.Need-enum-known-judged-2
-enum-known-judged-2 c = search needs
-
-cast-t5 : tie.Need-cast-t5
-cast-t5 c = search needs
-
 returns : tie.Need-returns
 returns c = ap answerOf (sym (c .enum-told .given .1))
 
@@ -36,11 +21,11 @@ pub answer-of-spec : {M : Type 1} → statement M
 answer-of-spec =
     tie.close
     (tie.spec
-    enum-told
-    enum-told-2
-    enum-known-judged
-    enum-known-judged-2
-    cast-t5
+    (λ c. search needs)
+    (λ c. search needs)
+    (λ c. search needs)
+    (λ c. search needs)
+    (λ c. search needs)
     returns
     returns-2
     returns-3

@@ -4,14 +4,10 @@ use borrow.Author.Needs.{needs}
 use Rattle.exported.proofs.duckbullion_judge_rabin.Statement.{statement}
 use Rattle.exported.proofs.duckbullion_judge_rabin.Tie as tie
 
-judge-rabin-requires : tie.Need-judge-rabin-requires
-judge-rabin-requires c κs = search needs
-
-answer-of-requires : tie.Need-answer-of-requires
-answer-of-requires c κs = search needs
-
 returns : tie.Need-returns
 returns c = c .answer-of .ensures ∙ c .before .judge-rabin .ensures
 
 pub duckbullion-judge-rabin-spec : {M : Type 1} → statement M
-duckbullion-judge-rabin-spec = tie.close (tie.spec judge-rabin-requires answer-of-requires returns)
+duckbullion-judge-rabin-spec =
+    tie.close
+    (tie.spec (λ c κs. search needs) (λ c κs. search needs) returns)

@@ -4,9 +4,6 @@ use Rattle.exported.proofs.Rests.{rest-of-lead, rest-fits, rest-of-loop
 use Rattle.exported.proofs.duckbullion_rest_of.Statement.{statement}
 use Rattle.exported.proofs.duckbullion_rest_of.Tie as tie
 
-rest-of-requires : tie.Need-rest-of-requires
-rest-of-requires c κs = search needs
-
 returns : tie.Need-returns
 returns c = rest-of-lead _ _ _ _ (c .if1 .taken) (c .before .rest-of .ensures .0)
 
@@ -17,4 +14,4 @@ returns-2 : tie.Need-returns-2
 returns-2 c = rest-of-loop _ _ _ _ (c .if1 .left) (c .before .rest-of .ensures .0)
 
 pub duckbullion-rest-of-spec : {M : Type 1} → statement M
-duckbullion-rest-of-spec = tie.close (tie.spec rest-of-requires returns sub-start returns-2)
+duckbullion-rest-of-spec = tie.close (tie.spec (λ c κs. search needs) returns sub-start returns-2)
