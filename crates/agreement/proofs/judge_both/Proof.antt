@@ -6,32 +6,8 @@ use Rattle.judge.proofs.Judgements.{judges-agree}
 use Rattle.agreement.proofs.judge_both.Statement.{statement}
 use Rattle.agreement.proofs.judge_both.Tie as tie
 
-translate-table-requires : tie.Need-translate-table-requires
-translate-table-requires c κs = search needs
-
-judge-rabin-requires : tie.Need-judge-rabin-requires
-judge-rabin-requires c κs = search needs
-
-letters-of-requires : tie.Need-letters-of-requires
-letters-of-requires c κs = search needs
-
 cast-letters : tie.Need-cast-letters
 cast-letters c = omega (arith, c .letters-of .ok)
-
-judge-parity-requires : tie.Need-judge-parity-requires
-judge-parity-requires c κs = search needs
-
-same-length : tie.Need-same-length
-same-length c = search needs
-
-same-length-2 : tie.Need-same-length-2
-same-length-2 c = search needs
-
-same-length-3 : tie.Need-same-length-3
-same-length-3 c = search needs
-
-same-length-4 : tie.Need-same-length-4
-same-length-4 c = search needs
 
 returns : tie.Need-returns
 returns c =
@@ -45,13 +21,13 @@ pub judge-both-spec : {M : Type 1} → statement M
 judge-both-spec =
     tie.close
     (tie.spec
-    translate-table-requires
-    judge-rabin-requires
-    letters-of-requires
+    (λ c κs. search needs)
+    (λ c κs. search needs)
+    (λ c κs. search needs)
     cast-letters
-    judge-parity-requires
-    same-length
-    same-length-2
-    same-length-3
-    same-length-4
+    (λ c κs. search needs)
+    (λ c. search needs)
+    (λ c. search needs)
+    (λ c. search needs)
+    (λ c. search needs)
     returns)
