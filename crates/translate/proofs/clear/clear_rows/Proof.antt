@@ -12,56 +12,29 @@ cells-before s = mul-le-mul-right (s .args .m) (s .pre .1)
 mul-clear-u16 : tie.Need-mul-clear-u16
 mul-clear-u16 c = omega (arith, cells-before (c .before .before .before .before .before))
 
-mul-clear-u16-2 : tie.Need-mul-clear-u16-2
-mul-clear-u16-2 c = search needs
-
 clear-u16-requires : tie.Need-clear-u16-requires
 clear-u16-requires c κs = omega (arith, cells-before (c .before .before .before .before .before))
 
 mul-clear-u8 : tie.Need-mul-clear-u8
 mul-clear-u8 c = omega (arith, cells-before (c .before .before .before .before .before .before .before .before .before))
 
-mul-clear-u8-2 : tie.Need-mul-clear-u8-2
-mul-clear-u8-2 c = search needs
-
 clear-u8-requires : tie.Need-clear-u8-requires
 clear-u8-requires c κs = omega (arith, cells-before (c .before .before .before .before .before .before .before .before .before))
-
-clear-u8-requires-2 : tie.Need-clear-u8-requires-2
-clear-u8-requires-2 c κs = search needs
-
-clear-u32-requires : tie.Need-clear-u32-requires
-clear-u32-requires c κs = search needs
-
-same-length : tie.Need-same-length
-same-length c = search needs
-
-same-length-2 : tie.Need-same-length-2
-same-length-2 c = search needs
-
-same-length-3 : tie.Need-same-length-3
-same-length-3 c = search needs
-
-same-length-4 : tie.Need-same-length-4
-same-length-4 c = search needs
-
-returns : tie.Need-returns
-returns c = search needs
 
 pub clear-rows-spec : {M : Type 1} → statement M
 clear-rows-spec =
     tie.close
     (tie.spec
     mul-clear-u16
-    mul-clear-u16-2
+    (λ c. search needs)
     clear-u16-requires
     mul-clear-u8
-    mul-clear-u8-2
+    (λ c. search needs)
     clear-u8-requires
-    clear-u8-requires-2
-    clear-u32-requires
-    same-length
-    same-length-2
-    same-length-3
-    same-length-4
-    returns)
+    (λ c κs. search needs)
+    (λ c κs. search needs)
+    (λ c. search needs)
+    (λ c. search needs)
+    (λ c. search needs)
+    (λ c. search needs)
+    (λ c. search needs))

@@ -16,17 +16,8 @@ abbrev μ-loop : tie.MeasureT-loop
 loop-holds : tie.Need-loop-holds Inv-loop μ-loop
 loop-holds c = (le-refl (c .args .from), c .pre .0, cleared-none (c .args .from) (c .args .array .now))
 
-mul-array : tie.Need-mul-array Inv-loop μ-loop
-mul-array c = omega arith
-
 slice-write-array : tie.Need-slice-write-array Inv-loop μ-loop
 slice-write-array c = omega (arith, c .before .loop .inv .2 .size, c .before .before .pre .1)
-
-add-i : tie.Need-add-i Inv-loop μ-loop
-add-i c = omega arith
-
-loop-less : tie.Need-loop-less Inv-loop μ-loop
-loop-less c = omega arith
 
 loop-again : tie.Need-loop-again Inv-loop μ-loop
 loop-again c =
@@ -47,10 +38,10 @@ clear-u32-spec =
     Inv-loop
     μ-loop
     loop-holds
-    mul-array
+    (λ c. omega arith)
     slice-write-array
-    add-i
-    loop-less
+    (λ c. omega arith)
+    (λ c. omega arith)
     loop-again
     same-length
     returns)

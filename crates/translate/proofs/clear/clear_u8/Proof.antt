@@ -19,12 +19,6 @@ loop-holds c = (le-refl (c .args .from), c .pre .0, cleared-none (c .args .from)
 slice-write-array : tie.Need-slice-write-array Inv-loop μ-loop
 slice-write-array c = omega (arith, c .before .loop .inv .2 .size, c .before .before .pre .1)
 
-add-i : tie.Need-add-i Inv-loop μ-loop
-add-i c = omega arith
-
-loop-less : tie.Need-loop-less Inv-loop μ-loop
-loop-less c = omega arith
-
 loop-again : tie.Need-loop-again Inv-loop μ-loop
 loop-again c =
     let i = c .before .loop in
@@ -45,8 +39,8 @@ clear-u8-spec =
     μ-loop
     loop-holds
     slice-write-array
-    add-i
-    loop-less
+    (λ c. omega arith)
+    (λ c. omega arith)
     loop-again
     same-length
     returns)
