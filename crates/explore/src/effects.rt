@@ -27,16 +27,6 @@ fn effect_by_pairs(memory: u32, marks: u32) -> u32
     SPAN * priority as u32 + next.word
 }
 
-// The effect of marks on a memory, by the rule.
-fn effect_of(rule: Rule, memory: u32, marks: u32) -> u32
-    requires { ⌜ (memory < span) × (marks < 65536) ⌝ }
-    ensures { λ r. ⌜ IsEffect rule memory marks r ⌝ }
-{
-    match rule {
-        Rule::Pairs => effect_by_pairs(memory, marks),
-    }
-}
-
 // All cells of a row have the same marks.
 fn same_marks(cells: &[u32], first: usize, m: usize) -> bool
     requires { ⌜ (0 < m) × (first + m ≤ length (now cells)) ⌝ }
@@ -67,7 +57,7 @@ fn repeat_effect(effect: u32, m: usize, effects: &mut [u32])
 }
 
 // Writes the effect of each letter by pairs, letters side by side.
-fn write_by_pairs(memory: u32, cells: &[u32], first: usize, m: usize, effects: &mut [u32])
+fn write_each(memory: u32, cells: &[u32], first: usize, m: usize, effects: &mut [u32])
     requires { ⌜ (memory < span) × (m ≤ maxLetters) × (first + m ≤ length (now cells)) × (maxLetters ≤ length (now effects)) ⌝ }
     ensures { λ _. ⌜ EffectsOn Pairs memory first m (now (cells .entry)) (now (effects .exit)) ⌝ }
 {
@@ -79,17 +69,20 @@ fn write_by_pairs(memory: u32, cells: &[u32], first: usize, m: usize, effects: &
     }
 }
 
-// Writes the effect of each letter: one loop for each rule, since a rule chosen within the loop keeps it from becoming vector code.
-fn write_each(rule: Rule, memory: u32, cells: &[u32], first: usize, m: usize, effects: &mut [u32])
-    requires { ⌜ (memory < span) × (m ≤ maxLetters) × (first + m ≤ length (now cells)) × (maxLetters ≤ length (now effects)) ⌝ }
-    ensures { λ _. ⌜ EffectsOn rule memory first m (now (cells .entry)) (now (effects .exit)) ⌝ }
+// Writes the effects by pairs: once for all letters, or letters side by side.
+fn write_by_pairs(memory: u32, cells: &[u32], first: usize, m: usize, effects: &mut [u32])
+    requires { ⌜ (memory < span) × (m ≤ maxLetters) × (0 < m) × (first + m ≤ length (now cells)) × (maxLetters ≤ length (now effects)) ⌝ }
+    ensures { λ _. ⌜ EffectsOn Pairs memory first m (now (cells .entry)) (now (effects .exit)) ⌝ }
 {
-    match rule {
-        Rule::Pairs => write_by_pairs(memory, cells, first, m, effects),
+    if same_marks(cells, first, m) {
+        repeat_effect(effect_by_pairs(memory, marks_of(cells[first])), m, effects);
+    } else {
+        write_each(memory, cells, first, m, effects);
     }
 }
 
-// Writes the effects of the cells of a row on its memory: once for all, or letters side by side.
+// Writes the effects of the cells of a row on its memory. The rule is matched here and not within a loop over letters, which it would keep
+// from becoming vector code.
 pub(crate) fn write_effects(
     rule: Rule,
     memory: u32,
@@ -101,9 +94,7 @@ pub(crate) fn write_effects(
     requires { ⌜ (memory < span) × (m ≤ maxLetters) × (0 < m) × (first + m ≤ length (now cells)) × (maxLetters ≤ length (now effects)) ⌝ }
     ensures { λ _. ⌜ EffectsOn rule memory first m (now (cells .entry)) (now (effects .exit)) ⌝ }
 {
-    if same_marks(cells, first, m) {
-        repeat_effect(effect_of(rule, memory, marks_of(cells[first])), m, effects);
-    } else {
-        write_each(rule, memory, cells, first, m, effects);
+    match rule {
+        Rule::Pairs => write_by_pairs(memory, cells, first, m, effects),
     }
 }

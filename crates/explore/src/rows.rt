@@ -16,10 +16,8 @@ ghost use mathlib.Core.Path.{_≡_};
 ghost use mathlib.Core.Bool.{false};
 ghost use Prim.Native.Nat.{_+_, _*_, _<_, _≤_};
 ghost use lib.Dec.{ltb};
-ghost use lib.ListN.{length, getD};
-ghost use Rattle.rules.specs.Limits.{maxLetters};
-ghost use Rattle.explore.specs.Cells.{span, sourceIn, memoryIn, crossingKind, stepIn};
-ghost use Rattle.explore.specs.Effects.{EffectsOn};
+ghost use lib.ListN.{length};
+ghost use Rattle.explore.specs.Cells.{span, crossingKind, stepIn};
 ghost use Rattle.explore.specs.Filing.{Filed};
 ghost use Rattle.explore.specs.Exploring.{fewRows, StepRead, Closed, Known, RowSays, Room, Stage, FewStage, RowsSay, FewSay, ExploresAll};
 
@@ -89,46 +87,6 @@ fn read_cell(
     rows_after(n, number)
 }
 
-// Reads row i by all letters, whose effects are given, as long as there is room, and gives how many rows are known then.
-fn read_cells(
-    task: Task,
-    cells: &[u32],
-    first: usize,
-    effects: &[u32],
-    i: usize,
-    n: usize,
-    capacity: usize,
-    keys: &mut [u32],
-    heads: &mut [u16],
-    links: &mut [u16],
-    targets: &mut [u16],
-    priorities: &mut [u8],
-) -> usize
-    requires { ⌜ Closed task (now cells) × (i < n) × (first ≡ sourceIn (getD (now keys) i 0) * task .letters) × (maxLetters ≤ length (now effects)) × EffectsOn (task .rule) (memoryIn (getD (now keys) i 0)) first (task .letters) (now cells) (now effects) × Known task (now cells) capacity n (i * task .letters) (now keys) (now heads) (now links) (now targets) (now priorities) ⌝ }
-    ensures { λ r. ⌜ RowSays task (now (cells .entry)) capacity n i (now (keys .entry)) (now (keys .exit)) (now (heads .exit)) (now (links .exit)) (now (targets .entry)) (now (targets .exit)) (now (priorities .entry)) (now (priorities .exit)) r ⌝ }
-{
-    let start = i * task.letters;
-    let mut known = n;
-    let mut a = 0;
-    // row i is read by the letters below a
-    while (a < task.letters) & (known <= capacity) {
-        known = read_cell(
-            cells[first + a],
-            effects[a],
-            start + a,
-            known,
-            capacity,
-            keys,
-            heads,
-            links,
-            targets,
-            priorities,
-        );
-        a += 1;
-    }
-    known
-}
-
 // Reads row i by all letters, as long as there is room, and gives how many rows are known then.
 fn read_row(
     task: Task,
@@ -151,20 +109,25 @@ fn read_row(
     let first = (key / SPAN) as usize * m;
     let mut effects = [0; MAX_LETTERS as usize];
     write_effects(rule, key % SPAN, cells, first, m, &mut effects);
-    read_cells(
-        task,
-        cells,
-        first,
-        &effects,
-        i,
-        n,
-        capacity,
-        keys,
-        heads,
-        links,
-        targets,
-        priorities,
-    )
+    let mut known = n;
+    let mut a = 0;
+    // row i is read by the letters below a
+    while (a < task.letters) & (known <= capacity) {
+        known = read_cell(
+            cells[first + a],
+            effects[a],
+            i * task.letters + a,
+            known,
+            capacity,
+            keys,
+            heads,
+            links,
+            targets,
+            priorities,
+        );
+        a += 1;
+    }
+    known
 }
 
 // Reads rows from number `row` on, where n are known, until all are read or more than `limit` are known. More than the capacity may be

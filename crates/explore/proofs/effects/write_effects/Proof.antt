@@ -1,14 +1,11 @@
--- `explore::effects::write_effects` meets its contract: one effect for all letters, or each letter's own.
+-- `explore::effects::write_effects` meets its contract: each rule by its own function.
 use borrow.Author.Needs.{needs}
-use Rattle.explore.proofs.Alike.{alike-effect}
+use Rattle.explore.proofs.Alike.{only-pairs}
 use Rattle.explore.proofs.effects.write_effects.Statement.{statement}
 use Rattle.explore.proofs.effects.write_effects.Tie as tie
 
 returns : tie.Need-returns
-returns c =
-    λ b l.
-    let u = c .before .before .before .before .before .before .before .before .before .before .before .args in
-    alike-effect (u .rule) (u .memory) (u .first) (u .m) (u .cells .now) _ _ (c .before .before .before .before .before .before .before .before .same-marks .ensures (c .before .before .before .before .before .before .before .if1 .taken)) (c .before .before .before .before .before .marks-of .ensures) (c .before .before .before .before .effect-of .ensures) b l _ (c .before .before .repeat-effect .ensures b l)
+returns c = λ b l. rw (only-pairs (c .before .before .before .before .before .before .args .rule)) (c .before .before .write-by-pairs .ensures b l)
 
 pub write-effects-spec : {M : Type 1} → statement M
 write-effects-spec =
@@ -16,12 +13,4 @@ write-effects-spec =
     (tie.spec
     (λ c κs. search needs)
     (λ c. search needs)
-    (λ c. search needs)
-    (λ c κs. search needs)
-    (λ c κs. search needs)
-    (λ c κs. search needs)
-    (λ c κs. search needs)
-    (λ c. search needs)
-    returns
-    (λ c. search needs)
-    (λ c. search needs))
+    returns)
