@@ -2,7 +2,8 @@
 ghost use Prim.Native.Nat.{_*_, _≤_};
 ghost use lib.ListN.{length};
 ghost use Rattle.rules.specs.Limits.{maxLetters, maxRows};
-ghost use Rattle.translate.specs.Arrays.{Cleared, RowsCleared};
+ghost use Rattle.rules.specs.Arrays.{Cleared};
+ghost use Rattle.translate.specs.Arrays.{RowsCleared};
 
 // Clears cells from number `from` up to `to`.
 fn clear_cells(from: usize, to: usize, targets: &mut [u16], priorities: &mut [u8])

@@ -1,28 +1,58 @@
--- `explore::effects::write_by_pairs` meets its contract: one effect for all letters, or each letter's own.
+-- `explore::effects::write_by_pairs` meets its contract. The invariant: the effects of the first a cells are written.
 use borrow.Author.Needs.{needs}
+use mathlib.Core.Path.{_≡_, refl}
+use Prim.Native.Nat.{_-_}
+use native.Mathlib.Omega.{arith}
+use lib.ListN.{length, length-set}
 use Rattle.explore.specs.declared.Rule.the-variants.{Pairs}
-use Rattle.explore.proofs.Alike.{alike-effect}
+use Rattle.explore.specs.Effects.{EffectsTo}
+use Rattle.explore.proofs.Alike.{effects-none, effects-more}
 use Rattle.explore.proofs.effects.write_by_pairs.Statement.{statement}
 use Rattle.explore.proofs.effects.write_by_pairs.Tie as tie
 
-returns : tie.Need-returns
+abbrev Inv-loop : tie.InvT-loop
+Inv-loop memory cells first n effects₀ a₀ effects a = EffectsTo Pairs memory first a cells effects × (length effects ≡ length effects₀)
+
+abbrev μ-loop : tie.MeasureT-loop
+μ-loop memory cells first n effects₀ a₀ effects a = n - a
+
+loop-holds : tie.Need-loop-holds Inv-loop μ-loop
+loop-holds c = let s = c .before .before .args in (effects-none Pairs (s .memory) (s .first) (s .cells .now) (s .effects .now), refl)
+
+effect-by-pairs-requires : tie.Need-effect-by-pairs-requires Inv-loop μ-loop
+effect-by-pairs-requires c κs = (c .before .before .before .before .before .before .pre .0, omega (arith, c .marks-of .ensures))
+
+slice-write-effects : tie.Need-slice-write-effects Inv-loop μ-loop
+slice-write-effects c = omega (arith, c .before .before .before .before .before .before .before .pre, c .before .before .before .before .loop .inv .1)
+
+loop-again : tie.Need-loop-again Inv-loop μ-loop
+loop-again c =
+    let s = c .before .before .before .before .before .before .before in
+    let u = s .args in
+    let turn = c .before .before .before .before .loop in
+    (effects-more Pairs (u .memory) (u .first) (turn .a) (u .cells .now) (turn .effects) _ _ (omega (arith, s .pre, turn .inv .1)) (c .before .marks-of .ensures) (c .effect-by-pairs .ensures) (turn .inv .0), simp length-set (turn .inv .1))
+
+returns : tie.Need-returns Inv-loop μ-loop
 returns c =
-    λ b l.
-    let u = c .before .before .before .before .before .before .before .before .before .before .before .args in
-    alike-effect Pairs (u .memory) (u .first) (u .m) (u .cells .now) _ _ (c .before .before .before .before .before .before .before .before .same-marks .ensures (c .before .before .before .before .before .before .before .if1 .taken)) (c .before .before .before .before .before .marks-of .ensures) (c .before .before .before .before .effect-by-pairs .ensures) b l _ (c .before .before .repeat-effect .ensures b l)
+    let turn = c .before .loop in
+    λ b l. turn .inv .0 b (omega (arith, c .loop-test .left))
 
 pub write-by-pairs-spec : {M : Type 1} → statement M
 write-by-pairs-spec =
     tie.close
     (tie.spec
-    (λ c κs. search needs)
+    Inv-loop
+    μ-loop
+    loop-holds
     (λ c. search needs)
     (λ c. search needs)
-    (λ c κs. search needs)
-    (λ c κs. search needs)
-    (λ c κs. search needs)
-    (λ c κs. search needs)
     (λ c. search needs)
-    returns
+    (λ c κs. search needs)
+    effect-by-pairs-requires
     (λ c. search needs)
-    (λ c. search needs))
+    slice-write-effects
+    (λ c. search needs)
+    (λ c. search needs)
+    loop-again
+    (λ c. c .before .loop .inv .1)
+    returns)

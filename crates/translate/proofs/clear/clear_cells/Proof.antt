@@ -3,8 +3,8 @@ use borrow.Author.Needs.{needs}
 use Prim.Native.Nat.{_-_, _≤_}
 use native.Mathlib.Nat.{le-antisymm}
 use native.Mathlib.Omega.{arith}
-use Rattle.translate.specs.Arrays.{Cleared}
-use Rattle.translate.proofs.Clearing.{cleared-none, cleared-more}
+use Rattle.rules.specs.Arrays.{Cleared}
+use Rattle.rules.proofs.Filling.{cleared-none, cleared-more}
 use Rattle.translate.proofs.clear.clear_cells.Statement.{statement}
 use Rattle.translate.proofs.clear.clear_cells.Tie as tie
 

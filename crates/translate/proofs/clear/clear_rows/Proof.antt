@@ -4,8 +4,8 @@ use Prim.Native.Nat.{_-_, _*_, _≤_}
 use native.Mathlib.Nat.{le-antisymm, mul-le-mul, mul-le-mul-right}
 use native.Mathlib.Omega.{arith}
 use Rattle.rules.specs.Limits.{maxLetters, maxRows}
-use Rattle.translate.specs.Arrays.{Cleared}
-use Rattle.translate.proofs.Clearing.{cleared-none, cleared-more}
+use Rattle.rules.specs.Arrays.{Cleared}
+use Rattle.rules.proofs.Filling.{cleared-none, cleared-more}
 use Rattle.translate.proofs.clear.clear_rows.Statement.{statement}
 use Rattle.translate.proofs.clear.clear_rows.Tie as tie
 
