@@ -20,7 +20,7 @@ cells-few : (s : tie.Start Inv-loop μ-loop) → (s .args .from * s .args .m ≤
 cells-few s = (mul-le-mul-right (s .args .m) (s .pre .1), mul-le-mul (s .pre .2) (s .pre .0))
 
 clear-cells-requires : tie.Need-clear-cells-requires Inv-loop μ-loop
-clear-cells-requires c κs = let s = c .before .before .before .before .before .before in (cells-few s .0, s .pre .3, s .pre .4)
+clear-cells-requires c κs = let s = c .before .before .before .before .before .before in (omega (arith, cells-few s), s .pre .3, s .pre .4)
 
 loop-holds : tie.Need-loop-holds Inv-loop μ-loop
 loop-holds c = (omega arith, c .before .before .before .before .before .before .before .before .before .before .before .pre .1, cleared-none _ _, cleared-none _ _)
