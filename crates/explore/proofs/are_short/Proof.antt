@@ -28,9 +28,4 @@ returns-2 c =
     rw (r .0, r .1)
 
 pub are-short-spec : {M : Type 1} → statement M
-are-short-spec =
-    tie.close
-    (tie.spec
-    returns
-    mul-cells
-    returns-2)
+are-short-spec = tie.close (tie.spec returns mul-cells returns-2)

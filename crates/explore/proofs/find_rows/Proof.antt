@@ -24,15 +24,5 @@ returns-3 c = answer-rows _ _ _ _ _ _ (fit (c .before .before .before .before .b
 pub find-rows-spec : {M : Type 1} → statement M
 find-rows-spec =
     tie.close
-    (tie.spec
-    (λ c κs. search needs)
-    returns
-    (λ c κs. fit-sizes _ _ _ _ _ _ (fit (c .before .before .before)))
-    (λ c. search needs)
-    (λ c. search needs)
-    (λ c. search needs)
-    returns-2
-    (λ c. search needs)
-    (λ c. search needs)
-    (λ c. search needs)
-    returns-3)
+    (tie.spec (λ c κs. search needs) returns (λ c κs. fit-sizes _ _ _ _ _ _ (fit (c .before .before .before))) (λ c. search needs) (λ c. search needs)
+    (λ c. search needs) returns-2 (λ c. search needs) (λ c. search needs) (λ c. search needs) returns-3)

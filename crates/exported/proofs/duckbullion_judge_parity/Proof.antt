@@ -8,6 +8,4 @@ returns : tie.Need-returns
 returns c = c .answer-of .ensures ∙ c .before .judge-parity .ensures
 
 pub duckbullion-judge-parity-spec : {M : Type 1} → statement M
-duckbullion-judge-parity-spec =
-    tie.close
-    (tie.spec (λ c κs. search needs) (λ c κs. search needs) returns)
+duckbullion-judge-parity-spec = tie.close (tie.spec (λ c κs. search needs) (λ c κs. search needs) returns)

@@ -8,6 +8,4 @@ returns : tie.Need-returns
 returns c = c .answer-of .ensures ∙ c .before .judge-rabin .ensures
 
 pub duckbullion-judge-rabin-spec : {M : Type 1} → statement M
-duckbullion-judge-rabin-spec =
-    tie.close
-    (tie.spec (λ c κs. search needs) (λ c κs. search needs) returns)
+duckbullion-judge-rabin-spec = tie.close (tie.spec (λ c κs. search needs) (λ c κs. search needs) returns)

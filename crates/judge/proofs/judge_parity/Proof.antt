@@ -59,15 +59,5 @@ returns-4 c = judged (c .before .before .before) (c .judge-many .result) (c .jud
 pub judge-parity-spec : {M : Type 1} → statement M
 judge-parity-spec =
     tie.close
-    (tie.spec
-    (λ c κs. search needs)
-    (λ c κs. search needs)
-    (λ c κs. search needs)
-    (λ c κs. search needs)
-    returns
-    judge-few-requires
-    returns-2
-    judge-some-requires
-    returns-3
-    judge-many-requires
-    returns-4)
+    (tie.spec (λ c κs. search needs) (λ c κs. search needs) (λ c κs. search needs) (λ c κs. search needs) returns judge-few-requires returns-2
+    judge-some-requires returns-3 judge-many-requires returns-4)

@@ -41,14 +41,5 @@ returns-2 c = let w = c .before .before .before in let t = taken (w .before .bef
 pub judge-rabin-spec : {M : Type 1} → statement M
 judge-rabin-spec =
     tie.close
-    (tie.spec
-    (λ c κs. search needs)
-    (λ c κs. search needs)
-    (λ c κs. search needs)
-    (λ c κs. search needs)
-    returns
-    (λ c. search needs)
-    (λ c. search needs)
-    (λ c. search needs)
-    judge-word-requires
-    returns-2)
+    (tie.spec (λ c κs. search needs) (λ c κs. search needs) (λ c κs. search needs) (λ c κs. search needs) returns (λ c. search needs)
+    (λ c. search needs) (λ c. search needs) judge-word-requires returns-2)

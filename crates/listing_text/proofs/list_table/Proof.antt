@@ -53,22 +53,6 @@ returns-2 c =
 pub list-table-spec : {M : Type 1} → statement M
 list-table-spec =
     tie.close
-    (tie.spec
-    (λ c κs. search needs)
-    put-refusal-requires
-    (λ c. search needs)
-    (λ c. search needs)
-    (λ c. search needs)
-    (λ c. search needs)
-    (λ c. search needs)
-    returns
-    shared-slice-read-letters
-    cast-letters
-    shared-slice-read-pairs
-    put-table-requires
-    (λ c. search needs)
-    (λ c. search needs)
-    (λ c. search needs)
-    (λ c. search needs)
-    (λ c. search needs)
-    returns-2)
+    (tie.spec (λ c κs. search needs) put-refusal-requires (λ c. search needs) (λ c. search needs) (λ c. search needs) (λ c. search needs)
+    (λ c. search needs) returns shared-slice-read-letters cast-letters shared-slice-read-pairs put-table-requires (λ c. search needs)
+    (λ c. search needs) (λ c. search needs) (λ c. search needs) (λ c. search needs) returns-2)

@@ -11,12 +11,4 @@ returns-2 : tie.Need-returns-2
 returns-2 c = rw (c .before .before .if1 .left, c .before .if2 .taken)
 
 pub decided-spec : {M : Type 1} → statement M
-decided-spec =
-    tie.close
-    (tie.spec
-    (λ c. search needs)
-    (λ c. search needs)
-    returns
-    (λ c. search needs)
-    returns-2
-    (λ c. search needs))
+decided-spec = tie.close (tie.spec (λ c. search needs) (λ c. search needs) returns (λ c. search needs) returns-2 (λ c. search needs))

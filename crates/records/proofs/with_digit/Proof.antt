@@ -11,6 +11,4 @@ returns-2 : tie.Need-returns-2
 returns-2 c = rw (ne-eqb (c .before .before .before .args .pair .0) 0 (c .before .if1 .left))
 
 pub with-digit-spec : {M : Type 1} → statement M
-with-digit-spec =
-    tie.close
-    (tie.spec (λ c. search needs) (λ c. search needs) (λ c. search needs) returns returns-2)
+with-digit-spec = tie.close (tie.spec (λ c. search needs) (λ c. search needs) (λ c. search needs) returns returns-2)

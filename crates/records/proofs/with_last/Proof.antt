@@ -7,11 +7,4 @@ returns : tie.Need-returns
 returns c = rw (c .before .if1 .taken)
 
 pub with-last-spec : {M : Type 1} → statement M
-with-last-spec =
-    tie.close
-    (tie.spec
-    (λ c. search needs)
-    (λ c. search needs)
-    (λ c. search needs)
-    returns
-    (λ c. search needs))
+with-last-spec = tie.close (tie.spec (λ c. search needs) (λ c. search needs) (λ c. search needs) returns (λ c. search needs))

@@ -28,14 +28,5 @@ returns c = any-end _ _ _ _ (c .loop-test .left) (c .before .loop .inv .1)
 pub any-strays-spec : {M : Type 1} → statement M
 any-strays-spec =
     tie.close
-    (tie.spec
-    Inv-loop
-    μ-loop
-    (λ c. (search needs, refl))
-    (λ c. search needs)
-    (λ c. search needs)
-    (λ c κs. search needs)
-    (λ c. search needs)
-    (λ c. search needs)
-    loop-again
-    returns)
+    (tie.spec Inv-loop μ-loop (λ c. (search needs, refl)) (λ c. search needs) (λ c. search needs) (λ c κs. search needs) (λ c. search needs)
+    (λ c. search needs) loop-again returns)

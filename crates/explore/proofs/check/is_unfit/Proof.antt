@@ -34,12 +34,4 @@ returns-2 c = rw (in-range (c .before .before .before) .0, in-range (c .before .
 pub is-unfit-spec : {M : Type 1} → statement M
 is-unfit-spec =
     tie.close
-    (tie.spec
-    (λ c. search needs)
-    returns
-    div-states
-    (λ c. search needs)
-    (λ c κs. search needs)
-    cast-are-short
-    (λ c κs. search needs)
-    returns-2)
+    (tie.spec (λ c. search needs) returns div-states (λ c. search needs) (λ c κs. search needs) cast-are-short (λ c κs. search needs) returns-2)

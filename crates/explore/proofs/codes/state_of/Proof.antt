@@ -4,8 +4,4 @@ use Rattle.explore.proofs.codes.state_of.Statement.{statement}
 use Rattle.explore.proofs.codes.state_of.Tie as tie
 
 pub state-of-spec : {M : Type 1} → statement M
-state-of-spec =
-    tie.close
-    (tie.spec
-    (λ c. rw (lt-ltb _ _ (c .if1 .taken)))
-    (λ c. rw (le-ltb _ _ (c .if1 .left))))
+state-of-spec = tie.close (tie.spec (λ c. rw (lt-ltb _ _ (c .if1 .taken))) (λ c. rw (le-ltb _ _ (c .if1 .left))))

@@ -23,12 +23,5 @@ returns c = record { is = rw (c .before .before .moved .ensures, c .before .prio
 pub effect-by-pairs-spec : {M : Type 1} → statement M
 effect-by-pairs-spec =
     tie.close
-    (tie.spec
-    (λ c. search needs)
-    (λ c. search needs)
-    (λ c κs. search needs)
-    (λ c κs. search needs)
-    (λ c. search needs)
-    (λ c. search needs)
-    add-result
+    (tie.spec (λ c. search needs) (λ c. search needs) (λ c κs. search needs) (λ c κs. search needs) (λ c. search needs) (λ c. search needs) add-result
     returns)

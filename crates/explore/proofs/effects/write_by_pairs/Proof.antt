@@ -40,19 +40,5 @@ returns c =
 pub write-by-pairs-spec : {M : Type 1} → statement M
 write-by-pairs-spec =
     tie.close
-    (tie.spec
-    Inv-loop
-    μ-loop
-    loop-holds
-    (λ c. search needs)
-    (λ c. search needs)
-    (λ c. search needs)
-    (λ c κs. search needs)
-    effect-by-pairs-requires
-    (λ c. search needs)
-    slice-write-effects
-    (λ c. search needs)
-    (λ c. search needs)
-    loop-again
-    (λ c. c .before .loop .inv .1)
-    returns)
+    (tie.spec Inv-loop μ-loop loop-holds (λ c. search needs) (λ c. search needs) (λ c. search needs) (λ c κs. search needs) effect-by-pairs-requires
+    (λ c. search needs) slice-write-effects (λ c. search needs) (λ c. search needs) loop-again (λ c. c .before .loop .inv .1) returns)

@@ -31,13 +31,4 @@ returns c =
     rw (only-pairs (u .rule)) (effects-all _ (u .memory) (u .first) (u .m) _ _ (u .cells .now) _ (s .pre .2) refl (c .before .before .before .before .stride-of .ensures) (c .before .before .write-by-pairs .ensures))
 
 pub write-effects-spec : {M : Type 1} → statement M
-write-effects-spec =
-    tie.close
-    (tie.spec
-    (λ c κs. search needs)
-    (λ c. search needs)
-    mul-n
-    add-n
-    write-by-pairs-requires
-    (λ c. search needs)
-    returns)
+write-effects-spec = tie.close (tie.spec (λ c κs. search needs) (λ c. search needs) mul-n add-n write-by-pairs-requires (λ c. search needs) returns)

@@ -42,16 +42,5 @@ returns c =
 pub index-keys-spec : {M : Type 1} → statement M
 index-keys-spec =
     tie.close
-    (tie.spec
-    Inv-loop
-    μ-loop
-    loop-holds
-    (λ c. search needs)
-    (λ c. search needs)
-    index-key-requires
-    (λ c. search needs)
-    (λ c. search needs)
-    loop-again
-    (λ c. c .before .loop .inv .2)
-    (λ c. c .before .loop .inv .3)
-    returns)
+    (tie.spec Inv-loop μ-loop loop-holds (λ c. search needs) (λ c. search needs) index-key-requires (λ c. search needs) (λ c. search needs) loop-again
+    (λ c. c .before .loop .inv .2) (λ c. c .before .loop .inv .3) returns)

@@ -54,16 +54,5 @@ returns-2 c =
 pub explore-spec : {M : Type 1} → statement M
 explore-spec =
     tie.close
-    (tie.spec
-    (λ c κs. search needs)
-    (λ c κs. search needs)
-    read-few-requires
-    (λ c. search needs)
-    (λ c. search needs)
-    (λ c. search needs)
-    returns
-    read-many-requires
-    (λ c. search needs)
-    (λ c. search needs)
-    (λ c. search needs)
-    returns-2)
+    (tie.spec (λ c κs. search needs) (λ c κs. search needs) read-few-requires (λ c. search needs) (λ c. search needs) (λ c. search needs) returns
+    read-many-requires (λ c. search needs) (λ c. search needs) (λ c. search needs) returns-2)

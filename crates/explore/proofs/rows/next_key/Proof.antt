@@ -18,10 +18,4 @@ returns-2 : tie.Need-returns-2
 returns-2 c = rw (c .before .before .pre, le-ltb _ _ (c .before .if1 .left)) (c .key-of2 .ensures)
 
 pub next-key-spec : {M : Type 1} → statement M
-next-key-spec =
-    tie.close
-    (tie.spec
-    (λ c κs. search needs)
-    returns
-    (λ c κs. search needs)
-    returns-2)
+next-key-spec = tie.close (tie.spec (λ c κs. search needs) returns (λ c κs. search needs) returns-2)

@@ -35,24 +35,6 @@ returns-2 c =
 pub read-cell-spec : {M : Type 1} → statement M
 read-cell-spec =
     tie.close
-    (tie.spec
-    (λ c. search needs)
-    (λ c. search needs)
-    (λ c. search needs)
-    (λ c. search needs)
-    (λ c. search needs)
-    returns
-    (λ c κs. there c)
-    (λ c κs. search needs)
-    cast-targets
-    (λ c. search needs)
-    (λ c. search needs)
-    priority-of-requires
-    (λ c. search needs)
-    (λ c κs. search needs)
-    (λ c. search needs)
-    (λ c. search needs)
-    (λ c. search needs)
-    (λ c. search needs)
-    (λ c. search needs)
-    returns-2)
+    (tie.spec (λ c. search needs) (λ c. search needs) (λ c. search needs) (λ c. search needs) (λ c. search needs) returns (λ c κs. there c)
+    (λ c κs. search needs) cast-targets (λ c. search needs) (λ c. search needs) priority-of-requires (λ c. search needs) (λ c κs. search needs)
+    (λ c. search needs) (λ c. search needs) (λ c. search needs) (λ c. search needs) (λ c. search needs) returns-2)

@@ -26,14 +26,5 @@ returns c =
 pub read-few-spec : {M : Type 1} → statement M
 read-few-spec =
     tie.close
-    (tie.spec
-    (λ c. search needs)
-    (λ c. search needs)
-    settle-requires
-    (λ c. search needs)
-    (λ c. search needs)
-    read-rows-requires
-    (λ c. search needs)
-    (λ c. search needs)
-    (λ c. search needs)
-    returns)
+    (tie.spec (λ c. search needs) (λ c. search needs) settle-requires (λ c. search needs) (λ c. search needs) read-rows-requires (λ c. search needs)
+    (λ c. search needs) (λ c. search needs) returns)

@@ -30,14 +30,5 @@ returns c =
 pub read-many-spec : {M : Type 1} → statement M
 read-many-spec =
     tie.close
-    (tie.spec
-    (λ c. search needs)
-    (λ c. search needs)
-    index-keys-requires
-    (λ c. search needs)
-    (λ c. search needs)
-    read-rows-requires
-    (λ c. search needs)
-    (λ c. search needs)
-    (λ c. search needs)
-    returns)
+    (tie.spec (λ c. search needs) (λ c. search needs) index-keys-requires (λ c. search needs) (λ c. search needs) read-rows-requires
+    (λ c. search needs) (λ c. search needs) (λ c. search needs) returns)

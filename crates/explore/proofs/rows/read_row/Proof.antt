@@ -125,31 +125,8 @@ returns c =
 pub read-row-spec : {M : Type 1} → statement M
 read-row-spec =
     tie.close
-    (tie.spec
-    Inv-loop
-    μ-loop
-    (λ c. search needs)
-    (λ c. search needs)
-    cast-first
-    mul-first
-    (λ c. search needs)
-    write-effects-requires
-    loop-holds
-    add-read-cell
-    mul-read-cell
-    shared-slice-read-read-cell
-    mul-read-cell-2
-    mul-read-cell-3
-    array-read-read-cell
-    mul-read-cell-4
-    add-read-cell-2
-    read-cell-requires
-    add-a
-    loop-less
-    loop-again
-    (λ c. c .before .before .loop .inv .0 .key-rest .size)
-    (λ c. c .before .before .loop .inv .1)
-    (λ c. c .before .before .loop .inv .2)
-    (λ c. c .before .before .loop .inv .0 .target-rest .size)
-    (λ c. c .before .before .loop .inv .0 .priority-rest .size)
-    returns)
+    (tie.spec Inv-loop μ-loop (λ c. search needs) (λ c. search needs) cast-first mul-first (λ c. search needs) write-effects-requires loop-holds
+    add-read-cell mul-read-cell shared-slice-read-read-cell mul-read-cell-2 mul-read-cell-3 array-read-read-cell mul-read-cell-4 add-read-cell-2
+    read-cell-requires add-a loop-less loop-again (λ c. c .before .before .loop .inv .0 .key-rest .size) (λ c. c .before .before .loop .inv .1)
+    (λ c. c .before .before .loop .inv .2) (λ c. c .before .before .loop .inv .0 .target-rest .size)
+    (λ c. c .before .before .loop .inv .0 .priority-rest .size) returns)

@@ -64,17 +64,6 @@ returns c =
 pub read-rows-spec : {M : Type 1} → statement M
 read-rows-spec =
     tie.close
-    (tie.spec
-    Inv-loop
-    μ-loop
-    loop-holds
-    read-row-requires
-    add-i
-    loop-less
-    loop-again
-    (λ c. c .before .loop .inv .0 .key-rest .size)
-    (λ c. c .before .loop .inv .3)
-    (λ c. c .before .loop .inv .4)
-    (λ c. c .before .loop .inv .0 .target-rest .size)
-    (λ c. c .before .loop .inv .0 .priority-rest .size)
-    returns)
+    (tie.spec Inv-loop μ-loop loop-holds read-row-requires add-i loop-less loop-again (λ c. c .before .loop .inv .0 .key-rest .size)
+    (λ c. c .before .loop .inv .3) (λ c. c .before .loop .inv .4) (λ c. c .before .loop .inv .0 .target-rest .size)
+    (λ c. c .before .loop .inv .0 .priority-rest .size) returns)

@@ -195,38 +195,6 @@ returns-4 c = sym (decided (c .before) ∙ rw (ne-eqb _ 0 (c .if3 .left)))
 pub judge-word-spec : {M : Type 1} → statement M
 judge-word-spec =
     tie.close
-    (tie.spec
-    Inv-loop
-    μ-loop
-    read-piece-requires
-    cast-read
-    returns
-    loop-holds
-    read-piece-requires-2
-    add-read
-    cast-read-2
-    same-length
-    same-length-2
-    returns-2
-    slice-write-peaks
-    add-pass
-    cast-begun
-    mul-begun
-    slice-write-begun
-    add-count
-    mul-first
-    slice-read-first
-    loop-less
-    loop-again
-    cast-from
-    sub-from
-    sub-peak-of
-    part-peak-of-start
-    part-peak-of-end
-    (λ c κs. tt)
-    same-length-3
-    same-length-4
-    returns-3
-    same-length-5
-    same-length-6
-    returns-4)
+    (tie.spec Inv-loop μ-loop read-piece-requires cast-read returns loop-holds read-piece-requires-2 add-read cast-read-2 same-length same-length-2
+    returns-2 slice-write-peaks add-pass cast-begun mul-begun slice-write-begun add-count mul-first slice-read-first loop-less loop-again cast-from
+    sub-from sub-peak-of part-peak-of-start part-peak-of-end (λ c κs. tt) same-length-3 same-length-4 returns-3 same-length-5 same-length-6 returns-4)

@@ -48,13 +48,5 @@ returns-4 c =
 pub parity-fault-spec : {M : Type 1} → statement M
 parity-fault-spec =
     tie.close
-    (tie.spec
-    (λ c. search needs)
-    returns
-    mul-cells
-    returns-2
-    slice-aggregate-target-fault
-    cast-target-fault
-    (λ c κs. search needs)
-    returns-3
+    (tie.spec (λ c. search needs) returns mul-cells returns-2 slice-aggregate-target-fault cast-target-fault (λ c κs. search needs) returns-3
     returns-4)

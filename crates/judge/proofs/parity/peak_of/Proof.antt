@@ -31,13 +31,4 @@ returns c = let i = c .before .loop in met-end ltb _ (i .i) (i .peak) (i .inv .1
 pub peak-of-spec : {M : Type 1} → statement M
 peak-of-spec =
     tie.close
-    (tie.spec
-    Inv-loop
-    μ-loop
-    loop-holds
-    (λ c. search needs)
-    (λ c κs. tt)
-    (λ c. search needs)
-    (λ c. omega arith)
-    loop-again
-    returns)
+    (tie.spec Inv-loop μ-loop loop-holds (λ c. search needs) (λ c κs. tt) (λ c. search needs) (λ c. omega arith) loop-again returns)

@@ -121,25 +121,6 @@ returns-2 c =
 pub read-piece-spec : {M : Type 1} → statement M
 read-piece-spec =
     tie.close
-    (tie.spec
-    Inv-loop
-    μ-loop
-    loop-holds
-    (λ c. omega arith)
-    cast-letter
-    mul-first
-    mul-column
-    sub-column
-    part-column-start
-    part-column-end
-    mul-target
-    shared-slice-read-target
-    cast-target
-    returns
-    add-larger
-    shared-slice-read-larger
-    (λ c κs. tt)
-    (λ c. omega arith)
-    (λ c. omega arith)
-    loop-again
+    (tie.spec Inv-loop μ-loop loop-holds (λ c. omega arith) cast-letter mul-first mul-column sub-column part-column-start part-column-end mul-target
+    shared-slice-read-target cast-target returns add-larger shared-slice-read-larger (λ c κs. tt) (λ c. omega arith) (λ c. omega arith) loop-again
     returns-2)

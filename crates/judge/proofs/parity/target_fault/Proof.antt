@@ -31,13 +31,4 @@ returns c = any-end _ _ _ _ (c .loop-test .left) (c .before .loop .inv .1)
 pub target-fault-spec : {M : Type 1} → statement M
 target-fault-spec =
     tie.close
-    (tie.spec
-    Inv-loop
-    μ-loop
-    loop-holds
-    (λ c. search needs)
-    (λ c. omega arith)
-    (λ c. omega arith)
-    (λ c. omega arith)
-    loop-again
-    returns)
+    (tie.spec Inv-loop μ-loop loop-holds (λ c. search needs) (λ c. omega arith) (λ c. omega arith) (λ c. omega arith) loop-again returns)

@@ -238,50 +238,8 @@ returns-4 c = sym (decided (c .before) ∙ rw (ne-eqb _ _ (c .if3 .left)))
 pub judge-word-spec : {M : Type 1} → statement M
 judge-word-spec =
     tie.close
-    (tie.spec
-    Inv-loop
-    μ-loop
-    shared-slice-read-n
-    cast-n
-    shared-slice-read-read-piece
-    cast-read-piece
-    read-piece-requires
-    cast-read
-    returns
-    loop-holds
-    read-piece-requires-2
-    add-read
-    cast-read-2
-    same-length
-    same-length-2
-    same-length-3
-    returns-2
-    slice-write-prohibited
-    slice-write-required
-    add-pass
-    cast-begun
-    mul-begun
-    slice-write-begun
-    add-count
-    mul-first
-    slice-read-first
-    loop-less
-    loop-again
-    cast-from
-    sub-from
-    sub-union-of
-    part-union-of-start
-    part-union-of-end
-    (λ c κs. tt)
-    sub-union-of-2
-    part-union-of-start-2
-    part-union-of-end-2
-    (λ c κs. tt)
-    same-length-4
-    same-length-5
-    same-length-6
-    returns-3
-    same-length-7
-    same-length-8
-    same-length-9
-    returns-4)
+    (tie.spec Inv-loop μ-loop shared-slice-read-n cast-n shared-slice-read-read-piece cast-read-piece read-piece-requires cast-read returns loop-holds
+    read-piece-requires-2 add-read cast-read-2 same-length same-length-2 same-length-3 returns-2 slice-write-prohibited slice-write-required add-pass
+    cast-begun mul-begun slice-write-begun add-count mul-first slice-read-first loop-less loop-again cast-from sub-from sub-union-of
+    part-union-of-start part-union-of-end (λ c κs. tt) sub-union-of-2 part-union-of-start-2 part-union-of-end-2 (λ c κs. tt) same-length-4
+    same-length-5 same-length-6 returns-3 same-length-7 same-length-8 same-length-9 returns-4)

@@ -216,38 +216,7 @@ returns-2 c =
 pub read-piece-spec : {M : Type 1} → statement M
 read-piece-spec =
     tie.close
-    (tie.spec
-    Inv-loop
-    μ-loop
-    shared-slice-read-n
-    cast-n
-    shared-slice-read-m
-    cast-m
-    mul-marks-at
-    add-marks-at
-    sub-targets
-    part-targets-start
-    part-targets-end
-    loop-holds
-    shared-slice-read-letter
-    cast-letter
-    mul-first
-    sub-column
-    part-column-start
-    part-column-end
-    shared-slice-read-target
-    cast-target
-    returns
-    add-at
-    mul-at
-    add-at-2
-    shared-slice-read-marks-word
-    add-marks-word
-    shared-slice-read-marks-word-2
-    (λ c κs. search needs)
-    (λ c. omega arith)
-    (λ c. omega arith)
-    loop-again
-    (λ c. omega arith)
-    cast-required
-    returns-2)
+    (tie.spec Inv-loop μ-loop shared-slice-read-n cast-n shared-slice-read-m cast-m mul-marks-at add-marks-at sub-targets part-targets-start
+    part-targets-end loop-holds shared-slice-read-letter cast-letter mul-first sub-column part-column-start part-column-end shared-slice-read-target
+    cast-target returns add-at mul-at add-at-2 shared-slice-read-marks-word add-marks-word shared-slice-read-marks-word-2 (λ c κs. search needs)
+    (λ c. omega arith) (λ c. omega arith) loop-again (λ c. omega arith) cast-required returns-2)

@@ -28,14 +28,4 @@ returns : tie.Need-returns Inv-loop μ-loop
 returns c = let i = c .before .loop in met-end bit _ (i .i) (i .union) (i .inv .1) (c .loop-test .left)
 
 pub union-of-spec : {M : Type 1} → statement M
-union-of-spec =
-    tie.close
-    (tie.spec
-    Inv-loop
-    μ-loop
-    loop-holds
-    (λ c. omega arith)
-    (λ c. omega arith)
-    (λ c. omega arith)
-    loop-again
-    returns)
+union-of-spec = tie.close (tie.spec Inv-loop μ-loop loop-holds (λ c. omega arith) (λ c. omega arith) (λ c. omega arith) loop-again returns)

@@ -11,6 +11,4 @@ judge-word-requires c κs =
     (p .0, p .1, record { enough = p .2; none = zeros-at fewRows }, p .2)
 
 pub judge-few-spec : {M : Type 1} → statement M
-judge-few-spec =
-    tie.close
-    (tie.spec (λ c. search needs) (λ c. search needs) judge-word-requires (λ c. search needs))
+judge-few-spec = tie.close (tie.spec (λ c. search needs) (λ c. search needs) judge-word-requires (λ c. search needs))

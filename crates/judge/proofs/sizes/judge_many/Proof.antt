@@ -14,6 +14,4 @@ judge-word-requires c κs =
     (p .0, p .1, record { enough = most; none = zeros-at maxRows }, most)
 
 pub judge-many-spec : {M : Type 1} → statement M
-judge-many-spec =
-    tie.close
-    (tie.spec (λ c. search needs) (λ c. search needs) judge-word-requires (λ c. search needs))
+judge-many-spec = tie.close (tie.spec (λ c. search needs) (λ c. search needs) judge-word-requires (λ c. search needs))

@@ -28,14 +28,4 @@ returns : tie.Need-returns Inv-loop μ-loop
 returns c = any-end _ _ _ _ (c .loop-test .left) (c .before .loop .inv .1)
 
 pub has-stray-spec : {M : Type 1} → statement M
-has-stray-spec =
-    tie.close
-    (tie.spec
-    Inv-loop
-    μ-loop
-    loop-holds
-    (λ c. omega arith)
-    (λ c. omega arith)
-    (λ c. omega arith)
-    loop-again
-    returns)
+has-stray-spec = tie.close (tie.spec Inv-loop μ-loop loop-holds (λ c. omega arith) (λ c. omega arith) (λ c. omega arith) loop-again returns)

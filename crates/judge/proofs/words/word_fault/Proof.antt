@@ -17,6 +17,4 @@ returns-3 c =
     rw (strays .before .before .if1 .left, ← strays .before .has-stray .ensures, ← strays .has-stray2 .ensures, c .if2 .left)
 
 pub word-fault-spec : {M : Type 1} → statement M
-word-fault-spec =
-    tie.close
-    (tie.spec returns (λ c κs. search needs) (λ c κs. search needs) returns-2 returns-3)
+word-fault-spec = tie.close (tie.spec returns (λ c κs. search needs) (λ c κs. search needs) returns-2 returns-3)

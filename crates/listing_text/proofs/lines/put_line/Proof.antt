@@ -63,12 +63,5 @@ put-optional-requires-3 c κs = record { ends = omega (arith, simp length-append
 pub put-line-spec : {M : Type 1} → statement M
 put-line-spec =
     tie.close
-    (tie.spec
-    put-field-requires
-    put-field-requires-2
-    put-optional-requires
-    put-field-requires-3
-    put-optional-requires-2
-    put-optional-requires-3
-    (λ c. search needs)
-    returns)
+    (tie.spec put-field-requires put-field-requires-2 put-optional-requires put-field-requires-3 put-optional-requires-2 put-optional-requires-3
+    (λ c. search needs) returns)

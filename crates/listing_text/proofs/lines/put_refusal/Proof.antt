@@ -14,11 +14,4 @@ unfolding refused
 returns c = wrote-both (c .before .before .before .before .before .before .put-bytes .ensures) (c .before .before .put-field .ensures)
 
 pub put-refusal-spec : {M : Type 1} → statement M
-put-refusal-spec =
-    tie.close
-    (tie.spec
-    (λ c. search needs)
-    (λ c κs. search needs)
-    put-field-requires
-    (λ c. search needs)
-    returns)
+put-refusal-spec = tie.close (tie.spec (λ c. search needs) (λ c κs. search needs) put-field-requires (λ c. search needs) returns)

@@ -46,16 +46,5 @@ returns c = rw (le-antisymm (c .before .loop .inv .0) (c .loop-test .left)) at (
 pub put-rows-spec : {M : Type 1} → statement M
 put-rows-spec =
     tie.close
-    (tie.spec
-    Inv-loop
-    μ-loop
-    loop-holds
-    (λ c. omega arith)
-    (λ c. omega arith)
-    (λ c. omega arith)
-    put-row-requires
-    (λ c. omega arith)
-    (λ c. omega arith)
-    loop-again
-    same-length
-    returns)
+    (tie.spec Inv-loop μ-loop loop-holds (λ c. omega arith) (λ c. omega arith) (λ c. omega arith) put-row-requires (λ c. omega arith)
+    (λ c. omega arith) loop-again same-length returns)

@@ -52,12 +52,5 @@ put-rows-requires c κs =
 pub put-table-spec : {M : Type 1} → statement M
 put-table-spec =
     tie.close
-    (tie.spec
-    cast-put-field
-    put-field-requires
-    (λ c. search needs)
-    put-field-requires-2
-    put-field-requires-3
-    put-rows-requires
-    (λ c. search needs)
+    (tie.spec cast-put-field put-field-requires (λ c. search needs) put-field-requires-2 put-field-requires-3 put-rows-requires (λ c. search needs)
     returns)

@@ -33,14 +33,4 @@ returns c = rw (take-all _ _ (c .loop-test .left)) at (c .before .loop .inv .1)
 pub put-bytes-spec : {M : Type 1} → statement M
 put-bytes-spec =
     tie.close
-    (tie.spec
-    Inv-loop
-    μ-loop
-    loop-holds
-    (λ c. search needs)
-    put-byte-requires
-    (λ c. search needs)
-    (λ c. search needs)
-    loop-again
-    same-length
-    returns)
+    (tie.spec Inv-loop μ-loop loop-holds (λ c. search needs) put-byte-requires (λ c. search needs) (λ c. search needs) loop-again same-length returns)

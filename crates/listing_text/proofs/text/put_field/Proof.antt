@@ -18,6 +18,4 @@ unfolding field
 returns c = wrote-both (c .before .before .before .before .before .before .put-numeral .ensures) (c .before .before .put-byte .ensures)
 
 pub put-field-spec : {M : Type 1} → statement M
-put-field-spec =
-    tie.close
-    (tie.spec put-numeral-requires put-byte-requires (λ c. search needs) returns)
+put-field-spec = tie.close (tie.spec put-numeral-requires put-byte-requires (λ c. search needs) returns)

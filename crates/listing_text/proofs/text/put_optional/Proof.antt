@@ -30,11 +30,4 @@ returns-2 c = rw (c .before .before .before .before .if1 .left) (c .before .befo
 pub put-optional-spec : {M : Type 1} → statement M
 put-optional-spec =
     tie.close
-    (tie.spec
-    put-byte-requires
-    put-byte-requires-2
-    (λ c. search needs)
-    returns
-    put-field-requires
-    (λ c. search needs)
-    returns-2)
+    (tie.spec put-byte-requires put-byte-requires-2 (λ c. search needs) returns put-field-requires (λ c. search needs) returns-2)

@@ -9,6 +9,4 @@ returns : tie.Need-returns
 returns c = marked-masked (c .args .pairs) (c .args .self .0) (omega arith)
 
 pub is-in-spec : {M : Type 1} → statement M
-is-in-spec =
-    tie.close
-    (tie.spec (λ c. search needs) (λ c. search needs) (λ c. search needs) returns)
+is-in-spec = tie.close (tie.spec (λ c. search needs) (λ c. search needs) (λ c. search needs) returns)

@@ -45,14 +45,4 @@ returns c =
 pub front-spec : {M : Type 1} → statement M
 front-spec =
     tie.close
-    (tie.spec
-    Inv-loop
-    μ-loop
-    loop-holds
-    (λ c κs. tt)
-    (λ c κs. tt)
-    with-pair-requires
-    (λ c. omega arith)
-    (λ c. omega arith)
-    loop-again
-    returns)
+    (tie.spec Inv-loop μ-loop loop-holds (λ c κs. tt) (λ c κs. tt) with-pair-requires (λ c. omega arith) (λ c. omega arith) loop-again returns)

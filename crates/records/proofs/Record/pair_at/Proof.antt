@@ -22,6 +22,4 @@ returns-2 : tie.Need-returns-2
 returns-2 c = pair-shifted 6 (c .before .before .args .self .word) (c .before .before .args .at .0) (c .before .if1 .left)
 
 pub pair-at-spec : {M : Type 1} → statement M
-pair-at-spec =
-    tie.close
-    (tie.spec returns sub-shift mul-shift (λ c. search needs) shr-t10 (λ c. search needs) returns-2)
+pair-at-spec = tie.close (tie.spec returns sub-shift mul-shift (λ c. search needs) shr-t10 (λ c. search needs) returns-2)

@@ -55,14 +55,4 @@ returns c =
 pub rear-spec : {M : Type 1} → statement M
 rear-spec =
     tie.close
-    (tie.spec
-    Inv-loop
-    μ-loop
-    loop-holds
-    (λ c κs. tt)
-    (λ c κs. tt)
-    with-last-requires
-    (λ c. omega arith)
-    (λ c. omega arith)
-    loop-again
-    returns)
+    (tie.spec Inv-loop μ-loop loop-holds (λ c κs. tt) (λ c κs. tt) with-last-requires (λ c. omega arith) (λ c. omega arith) loop-again returns)

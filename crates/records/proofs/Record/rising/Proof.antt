@@ -43,15 +43,4 @@ returns c =
     c .before .loop .inv .1 ∙ ap (λ (i : ℕ). packed (keep (isMarked (c .before .before .args .pairs)) (drop i all))) none
 
 pub rising-spec : {M : Type 1} → statement M
-rising-spec =
-    tie.close
-    (tie.spec
-    Inv-loop
-    μ-loop
-    loop-holds
-    (λ c κs. tt)
-    with-pair-requires
-    (λ c. omega arith)
-    (λ c. omega arith)
-    loop-again
-    returns)
+rising-spec = tie.close (tie.spec Inv-loop μ-loop loop-holds (λ c κs. tt) with-pair-requires (λ c. omega arith) (λ c. omega arith) loop-again returns)

@@ -24,17 +24,5 @@ clear-u8-requires c κs = omega (arith, cells-before (c .before .before .before 
 pub clear-rows-spec : {M : Type 1} → statement M
 clear-rows-spec =
     tie.close
-    (tie.spec
-    mul-clear-u16
-    (λ c. search needs)
-    clear-u16-requires
-    mul-clear-u8
-    (λ c. search needs)
-    clear-u8-requires
-    (λ c κs. search needs)
-    (λ c κs. search needs)
-    (λ c. search needs)
-    (λ c. search needs)
-    (λ c. search needs)
-    (λ c. search needs)
-    (λ c. search needs))
+    (tie.spec mul-clear-u16 (λ c. search needs) clear-u16-requires mul-clear-u8 (λ c. search needs) clear-u8-requires (λ c κs. search needs)
+    (λ c κs. search needs) (λ c. search needs) (λ c. search needs) (λ c. search needs) (λ c. search needs) (λ c. search needs))

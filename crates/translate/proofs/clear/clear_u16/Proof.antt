@@ -34,14 +34,4 @@ returns c = let i = c .before .loop in rw (le-antisymm (i .inv .1) (c .loop-test
 pub clear-u16-spec : {M : Type 1} → statement M
 clear-u16-spec =
     tie.close
-    (tie.spec
-    Inv-loop
-    μ-loop
-    loop-holds
-    (λ c. omega arith)
-    slice-write-array
-    (λ c. omega arith)
-    (λ c. omega arith)
-    loop-again
-    same-length
-    returns)
+    (tie.spec Inv-loop μ-loop loop-holds (λ c. omega arith) slice-write-array (λ c. omega arith) (λ c. omega arith) loop-again same-length returns)

@@ -32,15 +32,4 @@ returns : tie.Need-returns Inv-loop μ-loop
 returns c = let i = c .before .loop in rw (le-antisymm (i .inv .1) (c .loop-test .left)) at (i .inv .2)
 
 pub clear-u8-spec : {M : Type 1} → statement M
-clear-u8-spec =
-    tie.close
-    (tie.spec
-    Inv-loop
-    μ-loop
-    loop-holds
-    slice-write-array
-    (λ c. omega arith)
-    (λ c. omega arith)
-    loop-again
-    same-length
-    returns)
+clear-u8-spec = tie.close (tie.spec Inv-loop μ-loop loop-holds slice-write-array (λ c. omega arith) (λ c. omega arith) loop-again same-length returns)

@@ -13,10 +13,4 @@ explore-with-requires c κs =
 pub explore-table-spec : {M : Type 1} → statement M
 explore-table-spec =
     tie.close
-    (tie.spec
-    (λ c. search needs)
-    explore-with-requires
-    (λ c. search needs)
-    (λ c. search needs)
-    (λ c. search needs)
-    (λ c. search needs))
+    (tie.spec (λ c. search needs) explore-with-requires (λ c. search needs) (λ c. search needs) (λ c. search needs) (λ c. search needs))

@@ -51,20 +51,7 @@ returns c =
 pub unpack-spec : {M : Type 1} → statement M
 unpack-spec =
     tie.close
-    (tie.spec
-    Inv-loop
-    μ-loop
-    (λ c. (unpacked-none _ _, omega arith))
-    mul-key
-    (λ c. omega (arith, here (c .before)))
-    (λ c. omega (arith, small (c .before)))
-    (λ c. omega (arith, here (c .before)))
-    (λ c κs. tt)
-    mul-keys
-    (λ c. omega (arith, here (c .before .before)))
-    add-i
-    (λ c. omega (arith, here (c .before .before)))
-    loop-again
-    (λ c. c .before .loop .inv .0 .key-rest .size)
-    (λ c. c .before .loop .inv .0 .state-rest .size)
-    returns)
+    (tie.spec Inv-loop μ-loop (λ c. (unpacked-none _ _, omega arith)) mul-key (λ c. omega (arith, here (c .before)))
+    (λ c. omega (arith, small (c .before))) (λ c. omega (arith, here (c .before))) (λ c κs. tt) mul-keys
+    (λ c. omega (arith, here (c .before .before))) add-i (λ c. omega (arith, here (c .before .before))) loop-again
+    (λ c. c .before .loop .inv .0 .key-rest .size) (λ c. c .before .loop .inv .0 .state-rest .size) returns)
