@@ -63,8 +63,9 @@ module _ (m : ℕ) (cells : List ℕ) (w e : ℕ) (leads : strays (statesIn m ce
   moved-source : sourceIn (keyOf (targetIn w) (e % span)) ≡ targetIn w
   moved-source = omega arith
 
-  pub word-fits : stepIn w e .there ≡ true → Fits m cells (stepIn w e .to)
-  word-fits t =
+  pub code-fits : stepIn w e .there ≡ true → Fits m cells (stepIn w e .to)
+  unfolding stepIn
+  code-fits t =
       by
       (ltb w crossingKind)
       (λ f. clash t (rw f))
@@ -83,7 +84,7 @@ module _ (t : Task) (cells : List ℕ) (closed : Closed t cells) where
   pub step-fits : (v a : ℕ) → Fits m cells v → a < m → g .step v a .there ≡ true → Fits m cells (g .step v a .to)
   step-fits v a fits l =
       let w = getD cells (cell m (sourceIn v) a) 0 in
-      word-fits m cells w (effectBy (t .rule) (memoryIn v) (marksIn w)) (closed .leads (cell m (sourceIn v) a) (cell-fits m cells v a fits l))
+      code-fits m cells w (effectBy (t .rule) (memoryIn v) (marksIn w)) (closed .leads (cell m (sourceIn v) a) (cell-fits m cells v a fits l))
 
   module _ (c n i a : ℕ) (keys heads links ts ps : List ℕ) (li : i < n) (la : a < m) (k : Known t cells c n (cell m i a) keys heads links ts ps) where
     abbrev v : ℕ
@@ -182,6 +183,7 @@ module _ (t : Task) (cells : List ℕ) (closed : Closed t cells) where
 -- ---- what a function that reads a cell has done
 module _ (w e c n p : ℕ) (keys heads links ts ps : List ℕ) where
   pub read-missing : ltb w crossingKind ≡ true → Filed c n keys heads links → StepRead (stepIn w e) c n p keys keys heads links ts (set ts p noRow) ps (set ps p 0) n
+  unfolding stepIn
   read-missing f k =
       record {
         count = rw f;
@@ -193,6 +195,7 @@ module _ (w e c n p : ℕ) (keys heads links ts ps : List ℕ) where
       }
 
   pub step-there : ltb w crossingKind ≡ false → stepIn w e .there ≡ true
+  unfolding stepIn
   step-there f = by (ltb w insideKind) (λ h. rw (f, h)) (λ h. rw (f, h))
 
   pub read-there : (key prio number r : ℕ) (keys′ heads′ links′ : List ℕ) → ltb w crossingKind ≡ false → key ≡ stepIn w e .to → prio ≡ stepIn w e .prio

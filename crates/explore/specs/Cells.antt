@@ -53,7 +53,7 @@ stateIn w = pick (ltb w insideKind) (sourceIn (enteredIn w)) (targetIn w)
 abbrev pub strays : ℕ → ℕ → Bool
 strays n w = leb crossingKind w && leb n (stateIn w)
 
-abbrev pub stepIn : ℕ → ℕ → Step ℕ
+unfoldable pub stepIn : ℕ → ℕ → Step ℕ
 stepIn w e =
     pick (ltb w crossingKind) (record { there = false; to = 0; prio = missingPriority })
     (pick (ltb w insideKind) (record { there = true; to = enteredIn w; prio = crossingPriority })

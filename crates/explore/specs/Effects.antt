@@ -20,7 +20,7 @@ use Rattle.explore.specs.declared.Rule.the-variants.{Pairs}
 use Rattle.explore.specs.declared.Task.{Task}
 use Rattle.explore.specs.Cells.{span, sourceIn, memoryIn, marksIn, stepIn}
 
-abbrev pub effectBy : Rule → ℕ → ℕ → ℕ
+unfoldable pub effectBy : Rule → ℕ → ℕ → ℕ
 effectBy Pairs order marks =
     span * priority (marksOf (marks % 256) (marks / 256)) (places order) + packed (moved asTheyStood (isMarked (marks % 256)) (places order))
 

@@ -117,6 +117,7 @@ module _ (bs : List ℕ) (taken : Taken bs) (cells : List ℕ) (codes : TableCod
     both x y o = Key.span * priority (marksIn x y) o + packed (moved asTheyStood (isMarked x) o)
 
     effect-is : e ≡ Key.span * priority (marksOf t q a) (r .memory) + packed (moved asTheyStood (prohibits t q a) (r .memory))
+    unfolding effectBy
     effect-is =
         ap (λ (x : ℕ). effectBy (taskOf t .rule) x (P + 256 * Q)) memory-is
         ∙ ap (λ (x : ℕ). both x ((P + 256 * Q) / 256) (places (packed (r .memory)))) marks-low
@@ -143,14 +144,14 @@ module _ (bs : List ℕ) (taken : Taken bs) (cells : List ℕ) (codes : TableCod
       good-to : x .there ≡ true → IsKey t (x .to)
 
     step-missing-key : t .states ≤ end → Same (k .step v a) (g .step r a)
-    unfolding cellCode
+    unfolding cellCode Key.stepIn
     step-missing-key h =
         let s = step-missing (systemOf t) (recordKeeper t) r a h in
         let z : w ≡ 0 = code-is ∙ rw (le-leb (t .states) end h) in
         rw (step-by 0 z, s) (record { there = refl; prio = refl; to = λ f. absurd (false≢true f); good-to = λ f. absurd (false≢true f) })
 
     step-crossing-key : end < t .states → isInside (systemOf t) q a ≡ false → Same (k .step v a) (g .step r a)
-    unfolding cellCode
+    unfolding cellCode Key.stepIn
     step-crossing-key h i =
         let s = step-crossing (systemOf t) (recordKeeper t) r a h i in
         let entry = row end (rising t end) in
@@ -166,7 +167,7 @@ module _ (bs : List ℕ) (taken : Taken bs) (cells : List ℕ) (codes : TableCod
         (record { there = refl; prio = refl; to = λ f. row-of-key t few entry is-row; good-to = λ f. row-is-key t few entry is-row })
 
     step-inside-key : end < t .states → isInside (systemOf t) q a ≡ true → Same (k .step v a) (g .step r a)
-    unfolding cellCode
+    unfolding cellCode Key.stepIn
     step-inside-key h i =
         let s = step-inside (systemOf t) (recordKeeper t) r a h i in
         let next = row end (moved asTheyStood (prohibits t q a) (r .memory)) in

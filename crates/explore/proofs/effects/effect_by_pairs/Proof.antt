@@ -5,6 +5,7 @@ use native.Mathlib.Omega.{arith}
 use Rattle.records.specs.Words.{isMarked, places}
 use Rattle.records.proofs.Packing.{moved-small, places-below, places-length}
 use Rattle.explore.specs.Cells.{span}
+use Rattle.explore.specs.Effects.{effectBy}
 use Rattle.explore.proofs.effects.effect_by_pairs.Statement.{statement}
 use Rattle.explore.proofs.effects.effect_by_pairs.Tie as tie
 
@@ -18,6 +19,7 @@ add-result : tie.Need-add-result
 add-result c = omega (arith, small (c .before .before), c .before .priority .ok)
 
 returns : tie.Need-returns
+unfolding effectBy
 returns c = record { is = rw (c .before .before .moved .ensures, c .before .priority .ensures); small = omega (arith, small (c .before .before), c .before .priority .ok) }
 
 pub effect-by-pairs-spec : {M : Type 1} → statement M
