@@ -1,21 +1,22 @@
-// Checks a Rabin table, finds its components, and works out once a table what a translation asks of each state again and again.
-// It rests on `rules`: `check_table` and `find_components` keep the promises `CheckSays` and `ComponentsSay` there, and
+// Checks a Rabin table, finds its components, and lays it out for a translation: nobody above looks at its bytes.
+// It rests on `rules` and on `components`: `check_table` and `find_components` keep the promises `CheckSays` and `ComponentsSay` of the rules, and
 // `survey_table` keeps `SurveySays` of this crate, for every byte string and every array; `letters_of` reads the number of letters, and
 // `marks_word` joins the marks of a transition.
 use rules::limit::HEADER_SIZE;
+use rules::limit::MAX_LETTERS;
 use rules::limit::MAX_STATES;
 use rules::refusal;
 
 mod check;
-mod reach;
+mod homes;
+mod layout;
 mod survey;
-mod words;
 
 ghost use mathlib.Core.Path.{_≡_};
 ghost use Prim.Native.Nat.{_+_, _*_};
 ghost use Rattle.rules.specs.Says.{CheckSays, ComponentsSay};
 ghost use Rattle.rules.specs.Tables.{tableOf};
-ghost use Rattle.tables.specs.Surveys.{SurveySays};
+ghost use Rattle.tables.specs.Layouts.{SurveySays};
 
 // The table's letters: its second byte, 0 where there is none.
 pub fn letters_of(table: &[u8]) -> u8
@@ -79,28 +80,72 @@ pub fn find_components(table: &[u8], out: &mut [u8]) -> u8
     if refused != 0 {
         return refused;
     }
-    if out.len() < table[0] as usize {
+    let n = table[0] as usize;
+    if out.len() < n {
         return refusal::ARRAYS;
     }
-    reach::write_components(table, out);
+    let m = table[1] as usize;
+    let marks_at = HEADER_SIZE + n * m;
+    let mut targets = [0; MAX_STATES as usize * MAX_LETTERS as usize];
+    let mut homes = [0; MAX_STATES as usize];
+    layout::lay_targets(&table[HEADER_SIZE..marks_at], &mut targets);
+    homes::find_homes(n, m, &targets, &mut homes);
+    homes::narrow(&homes, n, out);
     0
 }
 
-// For each state, in the first n entries of both arrays: by which letters it stays in its component, and which pairs count there.
-pub fn survey_table(table: &[u8], inside: &mut [u16], counted: &mut [u8]) -> u8
-    ensures { λ r. ⌜ SurveySays (now (table .entry)) (now (inside .entry)) (now (inside .exit)) (now (counted .entry)) (now (counted .exit)) r ⌝ }
+// A table that is taken, laid out and surveyed: the refusal or 0, and its sizes and start, all 0 on a refusal.
+pub struct Surveyed {
+    pub number: u8,
+    pub states: usize,
+    pub letters: usize,
+    pub start: usize,
+}
+
+// No survey, with the number of the refusal.
+fn refused_with(number: u8) -> Surveyed
+    ensures { λ r. ⌜ (r .number ≡ number) × (r .states ≡ 0) × (r .letters ≡ 0) × (r .start ≡ 0) ⌝ }
+{
+    Surveyed {
+        number,
+        states: 0,
+        letters: 0,
+        start: 0,
+    }
+}
+
+// Lays a table out and surveys it: for each cell its target and its marks, for each state its component's number and the pairs that count
+// there, at the front of the four arrays.
+pub fn survey_table(
+    table: &[u8],
+    targets: &mut [u16],
+    marks: &mut [u16],
+    homes: &mut [u16],
+    counted: &mut [u8],
+) -> Surveyed
+    ensures { λ r. ⌜ SurveySays (now (table .entry)) (now (targets .entry)) (now (targets .exit)) (now (marks .entry)) (now (marks .exit)) (now (homes .entry)) (now (homes .exit)) (now (counted .entry)) (now (counted .exit)) (r .number) (r .states) (r .letters) (r .start) ⌝ }
 {
     let refused = check_table(table);
     if refused != 0 {
-        return refused;
+        return refused_with(refused);
     }
     let n = table[0] as usize;
-    if (inside.len() < n) | (counted.len() < n) {
-        return refusal::ARRAYS;
+    let m = table[1] as usize;
+    let cells = n * m;
+    let short = (targets.len() < cells)
+        | ((marks.len() < cells) | ((homes.len() < n) | (counted.len() < n)));
+    if short {
+        return refused_with(refusal::ARRAYS);
     }
-    let mut components = [0; MAX_STATES as usize];
-    reach::write_components(table, &mut components);
-    survey::write_inside(table, &components, inside);
-    survey::write_counted(table, &components, inside, counted);
-    0
+    let marks_at = HEADER_SIZE + cells;
+    layout::lay_targets(&table[HEADER_SIZE..marks_at], targets);
+    layout::lay_marks(&table[marks_at..], cells, marks);
+    homes::find_homes(n, m, targets, homes);
+    survey::write_counted(n, m, targets, marks, homes, counted);
+    Surveyed {
+        number: 0,
+        states: n,
+        letters: m,
+        start: table[3] as usize,
+    }
 }
