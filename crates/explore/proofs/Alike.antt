@@ -1,14 +1,13 @@
 -- Cells with the same marks, and the effects of a row's cells.
 --     only-pairs                 there is one rule
 --     alike-none, alike-more     no cell; one cell more, where its marks are compared
---     alike-all                  all cells
---     repeated-none, repeated-more, repeated-all     one effect for no letter; for one letter more; for all
---     alike-effect               the effect of the first of some cells with the same marks is that of each
---     effects-none, effects-more, effects-all     no effect is written yet; one effect more; all effects
+--     effects-none, effects-more     no effect is written yet; one effect more
+--     effects-all                the effect of each letter, where one serves for all or each has its own
 use mathlib.Core.Path.{_≡_, refl, sym, _∙_}
 use mathlib.Core.Bool.{Bool, true, _&&_}
 use mathlib.Core.List.{List}
-use Prim.Native.Nat.{ℕ, _+_, _<_, _≤_}
+use Prim.Native.Nat.{ℕ, _+_, _-_, _*_, _<_}
+use native.Mathlib.Nat.{mul-zero, mul-one}
 use native.Mathlib.Omega.{arith}
 use lib.Dec.{eqb}
 use lib.ListN.{length, getD, set}
@@ -18,7 +17,7 @@ use Rattle.rules.proofs.Bools.{by, and-parts}
 use Rattle.explore.specs.declared.Rule.{Rule}
 use Rattle.explore.specs.declared.Rule.the-variants.{Pairs}
 use Rattle.explore.specs.Cells.{marksIn}
-use Rattle.explore.specs.Effects.{IsEffect, SameMarks, OneEffect, EffectsOn}
+use Rattle.explore.specs.Effects.{IsEffect, SameMarks, Strides, EffectsTo, EffectsOn}
 
 pub only-pairs : (rule : Rule) → rule ≡ Pairs
 only-pairs Pairs = refl
@@ -35,37 +34,30 @@ alike-more first a cells same here marks h m before e b l =
     (λ z. let y : b ≡ a = eqb-true b a z in rw y (sym h ∙ eqb-true here marks (r .1) ∙ m))
     (λ z. before (r .0) b (omega (arith, eqb-false b a z)))
 
-pub alike-all : (first a m : ℕ) (cells : List ℕ) → m ≤ a → SameMarks first a cells → SameMarks first m cells
-alike-all first a m cells l h b k = h b (omega arith)
-
 -- ---- effects
-pub repeated-none : (e : ℕ) (effects : List ℕ) → OneEffect e 0 effects
-repeated-none e effects b l = absurd (omega arith)
-
-pub repeated-more : (e a : ℕ) (effects : List ℕ) → a < length effects → OneEffect e a effects → OneEffect e (a + 1) (set effects a e)
-repeated-more e a effects room before b l =
-    by
-    (eqb b a)
-    (λ z. let y : b ≡ a = eqb-true b a z in rw y (getD-set-same effects a e 0 room))
-    (λ z. let d = eqb-false b a z in rw (getD-set-other effects a b e 0 d) (before b (omega arith)))
-
-pub repeated-all : (e a m : ℕ) (effects : List ℕ) → m ≤ a → OneEffect e a effects → OneEffect e m effects
-repeated-all e a m effects l h b k = h b (omega arith)
-
-pub alike-effect : (rule : Rule) (order first m : ℕ) (cells : List ℕ) (e marks : ℕ) → SameMarks first m cells → marks ≡ marksIn (getD cells first 0) → IsEffect rule order marks e
-    → (b : ℕ) → b < m → (x : ℕ) → x ≡ e → IsEffect rule order (marksIn (getD cells (first + b) 0)) x
-alike-effect rule order first m cells e marks alike h is b l x one = rw (one, alike b l) (rw h at is)
-
-pub effects-none : (rule : Rule) (order first : ℕ) (cells effects : List ℕ) → EffectsOn rule order first 0 cells effects
+pub effects-none : (rule : Rule) (order first : ℕ) (cells effects : List ℕ) → EffectsTo rule order first 0 cells effects
 effects-none rule order first cells effects b l = absurd (omega arith)
 
 pub effects-more : (rule : Rule) (order first a : ℕ) (cells effects : List ℕ) (e marks : ℕ) → a < length effects → marks ≡ marksIn (getD cells (first + a) 0) → IsEffect rule order marks e
-    → EffectsOn rule order first a cells effects → EffectsOn rule order first (a + 1) cells (set effects a e)
+    → EffectsTo rule order first a cells effects → EffectsTo rule order first (a + 1) cells (set effects a e)
 effects-more rule order first a cells effects e marks room m is before b l =
     by
     (eqb b a)
     (λ z. let y : b ≡ a = eqb-true b a z in rw (y, getD-set-same effects a e 0 room) (rw m at is))
     (λ z. let d = eqb-false b a z in rw (getD-set-other effects a b e 0 d) (before b (omega arith)))
 
-pub effects-all : (rule : Rule) (order first a m : ℕ) (cells effects : List ℕ) → m ≤ a → EffectsOn rule order first a cells effects → EffectsOn rule order first m cells effects
-effects-all rule order first a m cells effects l h b k = h b (omega arith)
+pub effects-all : (rule : Rule) (order first m r n : ℕ) (cells effects : List ℕ) → 0 < m → n ≡ 1 + (m - 1) * r → Strides first m cells r → EffectsTo rule order first n cells effects
+    → EffectsOn rule order first m r cells effects
+effects-all rule order first m r n cells effects some size s f =
+    record { most = s .most; each = λ a l. by (eqb r 0) (λ e. one a l (eqb-true r 0 e)) (λ e. own a l (omega (arith, eqb-false r 0 e, s .most))) }
+  where
+    one : (a : ℕ) → a < m → r ≡ 0 → IsEffect rule order (marksIn (getD cells (first + a) 0)) (getD effects (a * r) 0)
+    one a l z =
+        let none : a * r ≡ 0 = rw z (mul-zero a) in
+        let here : first + 0 ≡ first = omega arith in
+        rw (none, s .same z a l) (rw here at (f 0 (rw (size, z) (omega arith))))
+
+    own : (a : ℕ) → a < m → r ≡ 1 → IsEffect rule order (marksIn (getD cells (first + a) 0)) (getD effects (a * r) 0)
+    own a l z =
+        let same : a * r ≡ a = rw z (mul-one a) in
+        rw same (f a (rw (size, z, mul-one (m - 1)) (omega arith)))

@@ -2,35 +2,32 @@
 --     has-room             what holds where no array is too short
 --     fit-sizes            what a task that is not unfit has
 --     rows-done            all rows are read, or more than the capacity were found
---     few-done, few-begun  the same with a small index: few rows; there may be more
+--     room-narrow          there is room for few rows where there is for more
+--     few-done, few-over, few-begun     the same with a small index: few rows; more than the capacity; there may be more
 --     many-after           rows read with a large index behind those read with a small one
 --     answer-unfit, answer-full, answer-rows     the three answers
 use mathlib.Core.Path.{_≡_, refl, sym, ap, _∙_}
-use mathlib.Core.Bool.{Bool, true, false, _&&_, _||_}
-use mathlib.Core.List.{List, [], _∷_, append-nil}
-use Prim.Native.Nat.{ℕ, suc, _+_, _*_, _<_, _≤_}
+use mathlib.Core.Bool.{true, false, _&&_, _||_}
+use mathlib.Core.List.{List}
+use Prim.Native.Nat.{ℕ, _*_, _<_, _≤_}
 use native.Mathlib.Nat.{mul-le-mul}
 use native.Mathlib.Omega.{arith}
 use lib.Dec.{eqb, ltb, leb}
-use lib.ListN.{length, getD, take}
-use lib.Seq.{length-take-le, getD-take}
-use borrow.Author.Tests.{eqb-false, ltb-true, ltb-false, lt-ltb, le-ltb, leb-false, le-leb}
-use Rattle.rules.specs.Basics.{pick, any, tabulate, joined}
+use lib.ListN.{length}
+use lib.Seq.{length-take-le}
+use borrow.Author.Tests.{eqb-false, ltb-true, ltb-false, lt-ltb, le-ltb, leb-false}
+use Rattle.rules.specs.Basics.{pick, any}
 use Rattle.rules.specs.Limits.{maxLetters, maxRows, noRow}
-use Rattle.rules.specs.Systems.{cell}
-use Rattle.rules.specs.Rows.{Plan, rowsOf, isFull, targetNumber}
-use Rattle.rules.specs.Says.{areShort, over}
-use Rattle.rules.proofs.Arrays.{cell-split, cells-length, cells-at}
+use Rattle.rules.specs.Rows.{Plan, rowsOf, targetNumber}
+use Rattle.rules.specs.Says.{areShort}
 use Rattle.rules.proofs.Bools.{by, or-none}
-use Rattle.rules.proofs.Filling.{over-is}
 use Rattle.rules.proofs.Sets.{none-at}
 use Rattle.explore.specs.declared.Task.{Task}
 use Rattle.explore.specs.declared.Explored.the-variants.{Rows, Full, Unfit}
-use Rattle.explore.specs.Arrays.{Beyond}
 use Rattle.explore.specs.Cells.{sourceIn, strays}
 use Rattle.explore.specs.Effects.{keyPlan}
-use Rattle.explore.specs.Exploring.{statesIn, isUnfit, Closed, Room, Stage, FewStage, RowsPart, RowsSay, FewSay, fewRows, ExploresAll, ExploreSays}
-use Rattle.explore.proofs.Rests.{beyond-then, beyond-wider}
+use Rattle.explore.specs.Exploring.{statesIn, isUnfit, Closed, Room, Begun, RowsPart, RowsSay, FewSay, fewRows, fewLimit, ExploresAll, ExploreSays}
+use Rattle.rules.proofs.Filling.{beyond-then, beyond-wider, cells-over, front-over}
 use Rattle.explore.proofs.Rounds.{all-read, all-over}
 
 -- ---- what can be explored
@@ -80,73 +77,82 @@ module _ (t : Task) (cells : List ℕ) where
   end-reached l i r within few ended =
       by (ltb i r) (λ e. absurd (omega (arith, leb-false r l (rw e at ended)))) (λ e. omega (arith, ltb-false i r e))
 
+  part-read : (c c₀ i r : ℕ) (keys keys′ heads′ links′ ts ts′ ps ps′ : List ℕ) → i ≡ r → r ≤ c₀ → r ≤ c → RowsPart t cells c₀ i keys keys′ heads′ links′ ts ts′ ps ps′ r
+      → ExploresAll t cells c keys keys′ ts ts′ ps ps′ r
+  part-read c c₀ i r keys keys′ heads′ links′ ts ts′ ps ps′ z l few part =
+      let p = rw z at part in
+      all-read t cells c keys ts ps c₀ r keys′ heads′ links′ ts′ ps′ few (p .stage l) (p .new-rest l) (p .target-rest) (p .priority-rest)
+
   pub rows-done : (n c i : ℕ) (keys keys′ heads′ links′ ts ts′ ps ps′ : List ℕ) (r : ℕ) → RowsSay t cells n c c i keys keys′ heads′ links′ ts ts′ ps ps′ r
       → ExploresAll t cells c keys keys′ ts ts′ ps ps′ r
   rows-done n c i keys keys′ heads′ links′ ts ts′ ps ps′ r s =
-      by (ltb c r) (λ e. all-over t cells c keys ts ps i r keys′ heads′ links′ ts′ ps′ (ltb-true c r e) (s .part)) (λ e. read (ltb-false c r e))
-    where
-      read : r ≤ c → ExploresAll t cells c keys keys′ ts ts′ ps ps′ r
-      read few =
-          let z = end-reached c i r (s .part .stage few .within) few (s .ended) in
-          let p = rw z at (s .part) in
-          all-read t cells c keys ts ps c r keys′ heads′ links′ ts′ ps′ few (p .stage few) (p .new-rest few) (p .target-rest) (p .priority-rest)
+      by
+      (ltb c r)
+      (λ e. all-over t cells c keys ts ps i r keys′ heads′ links′ ts′ ps′ (ltb-true c r e) (s .part))
+      (λ e. let few = ltb-false c r e in part-read c c i r keys keys′ heads′ links′ ts ts′ ps ps′ (end-reached c i r (s .part .stage few .within) few (s .ended)) few few (s .part))
 
-  module _ (l c i : ℕ) (keys keys′ ts ts′ ps ps′ : List ℕ) (r : ℕ) (letters : l + t .letters ≤ fewRows) (wide : fewRows ≤ c) (s : FewSay t cells l fewRows i keys keys′ ts ts′ ps ps′ r) where
-    few : r ≤ fewRows
-    few = omega (arith, s .says .most)
+  -- with a small index first
+  pub room-narrow : (c : ℕ) (ts ps keys : List ℕ) → Room (t .letters) c ts ps keys
+      → Room (t .letters) (pick (ltb c fewRows) c fewRows) ts ps keys × (pick (ltb c fewRows) c fewRows ≤ fewRows) × (pick (ltb c fewLimit) c fewLimit ≤ pick (ltb c fewRows) c fewRows)
+  room-narrow c ts ps keys room =
+      by (ltb c fewRows)
+      (λ e. let small = ltb-true c fewRows e in rw e (room, omega arith, by (ltb c fewLimit) (λ f. rw f (omega arith)) (λ f. rw f (ltb-false c fewLimit f))))
+      (λ e. let wide = ltb-false c fewRows e in
+      let cells-few : fewRows * t .letters ≤ c * t .letters = mul-le-mul wide (omega arith) in
+      rw (e, le-ltb c fewLimit (omega arith)) (record { some-rows = omega arith; most-rows = omega arith; target-room = omega (arith, room .target-room); priority-room = omega (arith, room .priority-room); key-room = omega (arith, room .key-room) }, omega arith, omega arith))
+
+  module _ (c : ℕ) (letters : t .letters ≤ maxLetters) (i : ℕ) (keys keys′ ts ts′ ps ps′ : List ℕ) (r : ℕ) (s : FewSay t cells (pick (ltb c fewLimit) c fewLimit) (pick (ltb c fewRows) c fewRows) i keys keys′ ts ts′ ps ps′ r) where
+    room : ℕ
+    room = pick (ltb c fewRows) c fewRows
+
+    room-few : room ≤ c
+    unfolding room
+    room-few = by (ltb c fewRows) (λ e. rw e (omega arith)) (λ e. rw e (ltb-false c fewRows e))
+
+    -- the small index has room for all rows that are known, unless there are more than the capacity
+    few : r ≤ c → r ≤ room
+    unfolding room
+    few h =
+        by (ltb c fewRows) (λ e. rw e h)
+        (λ e. let l = ltb-false c fewRows e in let most = rw (le-ltb c fewLimit (omega arith)) at (s .says .most) in rw e (omega arith))
+
+    part : RowsPart t cells room i keys keys′ (s .heads) (s .links) ts ts′ ps ps′ r
+    unfolding room
+    part = s .says .part
 
     pub few-done : i ≡ r → ExploresAll t cells c keys keys′ ts ts′ ps ps′ r
     few-done z =
-        let p = rw z at (s .says .part) in
-        all-read t cells c keys ts ps fewRows r keys′ (s .heads) (s .links) ts′ ps′ (omega (arith, few)) (p .stage few) (p .new-rest few) (p .target-rest) (p .priority-rest)
+        let l : r ≤ room = omega (arith, part .few) in
+        part-read c room i r keys keys′ (s .heads) (s .links) ts ts′ ps ps′ z l (omega (arith, room-few)) part
 
-    pub few-begun : FewStage t cells i r keys′ ts′ ps′
-    few-begun = record { heads = s .heads; links = s .links; stage = s .says .part .stage few }
+    pub few-over : c < r → ExploresAll t cells c keys keys′ ts ts′ ps ps′ r
+    few-over more =
+        by
+        (ltb c fewRows)
+        (λ e. all-over t cells c keys ts ps i r keys′ (s .heads) (s .links) ts′ ps′ more (rw e at (s .says .part)))
+        (λ e. let l = ltb-false c fewRows e in let most = rw (le-ltb c fewLimit (omega arith)) at (s .says .most) in absurd (omega arith))
 
-    pub many-after : (keys″ ts″ ps″ : List ℕ) (r′ : ℕ) → r ≤ r′ → ExploresAll t cells c keys′ keys″ ts′ ts″ ps′ ps″ r′
+    pub few-begun : r ≤ c → Begun t cells c i r keys′ ts′ ps′
+    few-begun h = record { room = room; heads = s .heads; links = s .links; within = room-few; stage = part .stage (few h) }
+
+    pub many-after : r ≤ c → (keys″ ts″ ps″ : List ℕ) (r′ : ℕ) → r ≤ r′ → ExploresAll t cells c keys′ keys″ ts′ ts″ ps′ ps″ r′
         → ExploresAll t cells c keys keys″ ts ts″ ps ps″ r′
-    many-after keys″ ts″ ps″ r′ more x =
-        let p = s .says .part in
-        let within = p .stage few .within in
+    many-after h keys″ ts″ ps″ r′ more x =
+        let within = part .stage (few h) .within in
+        let rest = part .new-rest (few h) in
         record {
           full = x .full;
           rows = x .rows;
           read = x .read;
-          key-rest = beyond-then (beyond-wider (omega (arith, few)) (p .new-rest few)) (x .key-rest);
-          target-rest = beyond-then (beyond-wider (mul-le-mul (omega (arith, within, few)) (omega arith)) (p .target-rest)) (x .target-rest);
-          priority-rest = beyond-then (beyond-wider (mul-le-mul (omega (arith, within, few)) (omega arith)) (p .priority-rest)) (x .priority-rest);
-          new-keys = λ h. beyond-then (beyond-wider more (p .new-rest few)) (x .new-keys h);
-          new-targets = λ h. beyond-then (beyond-wider (mul-le-mul (omega (arith, within)) (omega arith)) (p .target-rest)) (x .new-targets h);
-          new-priorities = λ h. beyond-then (beyond-wider (mul-le-mul (omega (arith, within)) (omega arith)) (p .priority-rest)) (x .new-priorities h);
+          key-rest = beyond-then (beyond-wider h rest) (x .key-rest);
+          target-rest = beyond-then (beyond-wider (mul-le-mul (omega (arith, within)) (omega arith)) (part .target-rest)) (x .target-rest);
+          priority-rest = beyond-then (beyond-wider (mul-le-mul (omega (arith, within)) (omega arith)) (part .priority-rest)) (x .priority-rest);
+          new-keys = λ b. beyond-then (beyond-wider more rest) (x .new-keys b);
+          new-targets = λ b. beyond-then (beyond-wider (mul-le-mul (omega (arith, within)) (omega arith)) (part .target-rest)) (x .new-targets b);
+          new-priorities = λ b. beyond-then (beyond-wider (mul-le-mul (omega (arith, within)) (omega arith)) (part .priority-rest)) (x .new-priorities b);
         }
 
 -- ---- the answers
--- one number for each letter of each row
-cells-over : {A : Type 0} {n m : ℕ} {old new : List ℕ} (rs : List A) (first : A) (h : A → ℕ → ℕ) → n ≡ length rs → 0 < m → n * m ≤ length old → Beyond (n * m) old new
-    → ((i a : ℕ) → a < m → cell m i a < n * m → getD new (cell m i a) 0 ≡ h (getD rs i first) a) → new ≡ over (joined (λ r. tabulate m 0 (h r)) rs) old
-cells-over {A} {n} {m} {old} {new} rs first h count some room rest front =
-    over-is cells old new (omega (arith, size)) (rest .size) (λ p l. same p (omega (arith, size))) (λ p l. rest .same p (omega (arith, size)))
-  where
-    cells : List ℕ
-    cells = joined (λ r. tabulate m 0 (h r)) rs
-
-    size : length cells ≡ n * m
-    size = cells-length h m rs ∙ rw (← count)
-
-    same : (p : ℕ) → p < n * m → getD new p 0 ≡ getD cells p 0
-    same p l =
-        let s = cell-split m n p some l in
-        rw (← append-nil cells, s .4)
-        (front (s .0) (s .1) (s .2) (rw (s .4) at l) ∙ sym (cells-at h m rs [] (s .0) (s .1) 0 first (rw (← count) (s .3)) (s .2)))
-
--- the first keys
-keys-over : (r : ℕ) (old new rs : List ℕ) → r ≤ length old → take r new ≡ rs → Beyond r old new → new ≡ over rs old
-keys-over r old new rs room e rest =
-    over-is rs old new (omega (arith, size)) (rest .size) (λ i l. rw (← e) (sym (getD-take r new i 0 (omega (arith, size))))) (λ i l. rest .same i (omega (arith, size)))
-  where
-    size : length rs ≡ r
-    size = ap length (sym e) ∙ length-take-le r new (omega (arith, rest .size))
-
 module _ (t : Task) (cells : List ℕ) (c : ℕ) (keys ts ps : List ℕ) where
   pub answer-unfit : isUnfit t cells c (length keys) (length ts) (length ps) ≡ true → ExploreSays t cells c keys keys ts ts ps ps Unfit
   answer-unfit h = record { answer = rw h; arrays = (refl, refl, refl) }
@@ -165,5 +171,5 @@ module _ (t : Task) (cells : List ℕ) (c : ℕ) (keys ts ps : List ℕ) where
         let count : r ≡ length rs = sym (ap length (sym (x .rows few)) ∙ length-take-le r keys′ (omega (arith, x .key-rest .size))) in
         record {
           answer = rw (fit, sym (x .full) ∙ le-ltb c r few, ← count);
-          arrays = (keys-over r keys keys′ rs (omega arith) (x .rows few) (x .new-keys few), cells-over rs (t .start) (targetNumber (keyPlan t cells) noRow rs) count (s .0 .some-letters) (omega (arith, s .1 .target-room)) (x .new-targets few) (x .read few .targets), cells-over rs (t .start) (λ v a. keyPlan t cells .step v a .prio) count (s .0 .some-letters) (omega (arith, s .1 .priority-room)) (x .new-priorities few) (x .read few .priorities));
+          arrays = (front-over r keys keys′ rs (omega arith) (x .rows few) (x .new-keys few), cells-over rs (t .start) (targetNumber (keyPlan t cells) noRow rs) count (s .0 .some-letters) (omega (arith, s .1 .target-room)) (x .new-targets few) (x .read few .targets), cells-over rs (t .start) (λ v a. keyPlan t cells .step v a .prio) count (s .0 .some-letters) (omega (arith, s .1 .priority-room)) (x .new-priorities few) (x .read few .priorities));
         }

@@ -6,30 +6,29 @@
 --     stage-wider           a stage with another index, and room for more rows
 --     all-read, all-over    all rows are read; more than the capacity were found
 use mathlib.Core.Path.{_≡_, refl, sym, ap, _∙_}
-use mathlib.Core.Bool.{true, false, _&&_, and-false}
+use mathlib.Core.Bool.{false, _&&_, and-false}
 use mathlib.Core.List.{List, [], _∷_}
 use Prim.Native.Nat.{ℕ, suc, _+_, _-_, _*_, _<_, _≤_}
 use native.Mathlib.Nat.{suc-mul, zero-mul, mul-le-mul}
 use native.Mathlib.Numerals.{add-one}
 use native.Mathlib.Omega.{arith}
-use lib.Dec.{eqb, ltb, leb}
-use lib.ListN.{length, getD, set, take}
+use lib.Dec.{ltb, leb}
+use lib.ListN.{length, getD, take}
 use lib.Seq.{getD-set-same, length-take-le, take-suc-set}
-use borrow.Author.Tests.{ltb-true, ltb-false, lt-ltb, le-ltb, leb-false, le-leb, lt-leb}
+use borrow.Author.Tests.{ltb-false, lt-ltb, le-ltb, leb-false, le-leb, lt-leb}
 use Rattle.rules.specs.Limits.{noRow}
 use Rattle.rules.specs.Systems.{cell}
 use Rattle.rules.specs.Rows.{Plan, Step, SameIsEqual, met, foundBy, foundFrom, rowsOf}
-use Rattle.rules.proofs.Arrays.{row-ends}
 use Rattle.rules.proofs.Bools.{by, and-both}
 use Rattle.rules.proofs.Exploration.{met-longer, by-next, by-grows, from-on, from-stop}
 use Rattle.explore.specs.declared.Task.{Task}
-use Rattle.explore.specs.Arrays.{Beyond}
+use Rattle.rules.specs.Arrays.{Beyond}
 use Rattle.explore.specs.Index.{Indexed}
 use Rattle.explore.specs.Filing.{Settles}
 use Rattle.explore.specs.Effects.{keyStep, keyPlan}
 use Rattle.explore.specs.Exploring.{Fits, Closed, Room, StepRead, Known, RowSays, Stage, RowsPart, ExploresAll}
-use Rattle.explore.proofs.Rests.{beyond-none, beyond-set, beyond-then, beyond-wider}
-use Rattle.explore.proofs.Reading.{read-none}
+use Rattle.rules.proofs.Filling.{beyond-none, beyond-set, beyond-then, beyond-wider}
+use Rattle.rules.proofs.Reading.{read-none}
 use Rattle.explore.proofs.Steps.{keyed-same, key-row, step-count, step-most, step-rows, step-front, step-rest, step-known}
 
 pub record RowPart (t : Task) (cells : List ℕ) (c n i a : ℕ) (keys keys′ heads′ links′ ts ts′ ps ps′ : List ℕ) (r : ℕ) : Type 0 where

@@ -16,7 +16,7 @@ use Rattle.rules.proofs.Exploration.{place-found, place-least, place-most}
 use Rattle.explore.specs.Index.{slotOf, Apart, numberAmong, KeyIndexed}
 use Rattle.explore.specs.Filing.{Filed, Settles}
 use Rattle.explore.proofs.Chains.{indexed-none, indexed-more}
-use Rattle.explore.proofs.Rests.{beyond-none, beyond-set}
+use Rattle.rules.proofs.Filling.{beyond-none, beyond-set}
 
 -- ---- the number of a key
 module _ (n key : ℕ) (keys : List ℕ) (room : n ≤ length keys) where

@@ -20,18 +20,18 @@ use borrow.Author.Tests.{eqb-true, eq-eqb, ltb-true, ltb-false, leb-false, le-le
 use Rattle.rules.specs.Basics.{pick}
 use Rattle.rules.specs.Limits.{noRow}
 use Rattle.rules.specs.Systems.{cell}
-use Rattle.rules.specs.Rows.{Step, Plan, SameIsEqual, rowAt, numberOf, met, targetNumber}
+use Rattle.rules.specs.Rows.{Step, Plan, SameIsEqual, rowAt, met, targetNumber, Read}
 use Rattle.rules.proofs.Bools.{by, clash, and-both}
 use Rattle.rules.proofs.Arrays.{getD-any, row-ends}
 use Rattle.explore.specs.declared.Task.{Task}
-use Rattle.explore.specs.Arrays.{Beyond}
+use Rattle.rules.specs.Arrays.{Beyond}
 use Rattle.explore.specs.Index.{numberAmong}
 use Rattle.explore.specs.Cells.{span, keyOf, sourceIn, memoryIn, crossingKind, insideKind, targetIn, marksIn, stateIn, strays, stepIn}
 use Rattle.explore.specs.Effects.{effectBy, keyed, keyStep, keyPlan}
-use Rattle.explore.specs.Exploring.{statesIn, Fits, Closed, Read, StepRead, Known}
+use Rattle.explore.specs.Exploring.{statesIn, Fits, Closed, StepRead, Known}
 use Rattle.explore.specs.Filing.{Filed, rowsAfter, Settles}
-use Rattle.explore.proofs.Rests.{beyond-none, beyond-set}
-use Rattle.explore.proofs.Reading.{met-missing, met-there, target-there, step-found, read-more}
+use Rattle.rules.proofs.Filling.{beyond-none, beyond-set}
+use Rattle.rules.proofs.Reading.{met-missing, met-there, target-there, step-found, read-more}
 
 pub keyed-same : (m first : ℕ) (step : ℕ → ℕ → Step ℕ) → SameIsEqual (keyed m first step)
 keyed-same m first step = record { equal = λ x y e. eqb-true x y e; self = λ x. eq-eqb x x refl }

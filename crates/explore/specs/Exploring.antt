@@ -5,13 +5,12 @@
 --     Fits m cells v               the cells of the key's state are among the cells
 --     Closed t cells               the letters are in range, and the start and every code lead to keys that fit
 --     Room m c ts ps keys          the capacity c is in range, and the lent arrays have room for as many rows
---     Read g none rs p ts ps       the cells below p are read: ts has the number of the row to which each leads among rs, `none` where the
---                                  transition is missing, and ps its priority; over any plan
 --     StepRead x c n p ..          a cell whose step is x has been read; there is no plan here
 --     Known t cells c n p ..       n keys are filed, the cells below p are read
 --     RowSays t cells c n i ..     row i has been read by all letters
 --     Stage t cells c i n ..       the rows below i are read, n are known, and the exploration goes on from here, whatever the capacity
---     FewStage t cells i n ..      the same with some small index
+--     fewRows, fewLimit            the rows of a small index, and up to how many the next row leads to no more
+--     Begun t cells c i n ..       the same with some index and room for c rows at most
 --     RowsPart t cells c i .. r    what reading the rows below i leaves, r being known: a stage, or more than c
 --     RowsSay t cells n l c i .. r the same from n known rows on, where all rows were read or more than l are known
 --     FewSay t cells l c i .. r    the same from the first row on, with some small index
@@ -21,20 +20,19 @@
 --                                  rows of each are left open, and only what is behind them is as it was; after Unfit all is as it was
 --     ExploreSays t cells c .. x   an exploration: the answer and the arrays
 use mathlib.Core.Path.{_≡_}
-use mathlib.Core.Bool.{Bool, true, false, _&&_, _||_}
+use mathlib.Core.Bool.{Bool, false, _&&_, _||_}
 use mathlib.Core.List.{List}
 use Prim.Native.Nat.{ℕ, suc, _+_, _-_, _*_, _/_, _<_, _≤_}
 use lib.Dec.{eqb, ltb, leb}
 use lib.ListN.{length, getD, set, take}
 use Rattle.rules.specs.Basics.{pick, any}
 use Rattle.rules.specs.Limits.{maxLetters, maxRows, noRow}
-use Rattle.rules.specs.Systems.{cell}
-use Rattle.rules.specs.Rows.{Plan, Step, rowAt, numberOf, targetNumber, foundBy, foundFrom, rowsOf, isFull, allTargets, allPriorities}
+use Rattle.rules.specs.Rows.{Step, Read, foundBy, foundFrom, rowsOf, isFull, allTargets, allPriorities}
 use Rattle.rules.specs.Says.{areShort, over}
 use Rattle.explore.specs.declared.Task.{Task}
 use Rattle.explore.specs.declared.Explored.{Explored}
 use Rattle.explore.specs.declared.Explored.the-variants.{Rows, Full, Unfit}
-use Rattle.explore.specs.Arrays.{Beyond}
+use Rattle.rules.specs.Arrays.{Beyond}
 use Rattle.explore.specs.Index.{numberAmong}
 use Rattle.explore.specs.Filing.{Filed, rowsAfter}
 use Rattle.explore.specs.Cells.{sourceIn, strays}
@@ -66,13 +64,6 @@ pub record Room (m c : ℕ) (ts ps keys : List ℕ) : Type 0 where
   pub key-room : c ≤ length keys
 
 -- ---- cells and rows that are read
-pub record Read {A : Type 0} (g : Plan A) (none : ℕ) (rs : List A) (p : ℕ) (ts ps : List ℕ) : Type 0 where
-  pub targets : (j a : ℕ) → a < g .letters → cell (g .letters) j a < p → getD ts (cell (g .letters) j a) 0 ≡ targetNumber g none rs (rowAt g rs j) a
-  pub priorities : (j a : ℕ) → a < g .letters → cell (g .letters) j a < p → getD ps (cell (g .letters) j a) 0 ≡ g .step (rowAt g rs j) a .prio
-  -- what is read leads to rows that are known
-  pub closed : (j a : ℕ) → a < g .letters → cell (g .letters) j a < p → g .step (rowAt g rs j) a .there ≡ true
-      → numberOf g (g .step (rowAt g rs j) a .to) rs < length rs
-
 pub record StepRead (x : Step ℕ) (c n p : ℕ) (keys keys′ heads′ links′ ts ts′ ps ps′ : List ℕ) (r : ℕ) : Type 0 where
   pub count : r ≡ pick (x .there) (rowsAfter n (numberAmong (x .to) n keys)) n
   pub filed : r ≤ c → Filed c r keys′ heads′ links′
@@ -108,10 +99,15 @@ pub record Stage (t : Task) (cells : List ℕ) (c i n : ℕ) (keys heads links t
 abbrev pub fewRows : ℕ
 fewRows = 64
 
-pub record FewStage (t : Task) (cells : List ℕ) (i n : ℕ) (keys ts ps : List ℕ) : Type 0 where
+abbrev pub fewLimit : ℕ
+fewLimit = 48
+
+pub record Begun (t : Task) (cells : List ℕ) (c i n : ℕ) (keys ts ps : List ℕ) : Type 0 where
+  pub room : ℕ
   pub heads : List ℕ
   pub links : List ℕ
-  pub stage : Stage t cells fewRows i n keys heads links ts ps
+  pub within : room ≤ c
+  pub stage : Stage t cells room i n keys heads links ts ps
 
 pub record RowsPart (t : Task) (cells : List ℕ) (c i : ℕ) (keys keys′ heads′ links′ ts ts′ ps ps′ : List ℕ) (r : ℕ) : Type 0 where
   pub few : i ≤ c

@@ -6,10 +6,10 @@ use mathlib.Core.Path.{_≡_}
 use mathlib.Core.List.{List}
 use Prim.Native.Nat.{ℕ, suc, _<_, _≤_}
 use lib.Dec.{eqb}
-use lib.ListN.{length, getD, set}
+use lib.ListN.{length, set}
 use Rattle.rules.specs.Basics.{pick}
 use Rattle.rules.specs.Limits.{maxRows}
-use Rattle.explore.specs.Arrays.{Beyond}
+use Rattle.rules.specs.Arrays.{Beyond}
 use Rattle.explore.specs.Index.{Indexed, Apart, numberAmong}
 
 pub record Filed (c n : ℕ) (keys heads links : List ℕ) : Type 0 where

@@ -1,5 +1,4 @@
 -- What the exploration's contracts cite beyond the rules, bottom first.
-pub mod Arrays
 pub mod Index
 pub mod Filing
 pub mod Cells

@@ -1,17 +1,15 @@
-// What the marks of a transition do to a memory, worked out for all letters of a row before they are read. Where all of them have the
-// same marks, it is worked out once.
+// What the marks of a transition do to a memory, worked out for all letters of a row before they are read: once where all of them have the
+// same marks.
 use crate::Rule;
 use crate::codes::SPAN;
 use crate::codes::marks_of;
 use records::Record;
-ghost use mathlib.Core.Path.{_≡_};
-ghost use mathlib.Core.Bool.{true};
 ghost use Prim.Native.Nat.{_+_, _<_, _≤_};
 ghost use lib.ListN.{length};
 ghost use Rattle.rules.specs.Limits.{maxLetters};
 ghost use Rattle.explore.specs.declared.Rule.the-variants.{Pairs};
 ghost use Rattle.explore.specs.Cells.{span};
-ghost use Rattle.explore.specs.Effects.{IsEffect, SameMarks, OneEffect, EffectsOn};
+ghost use Rattle.explore.specs.Effects.{IsEffect, Strides, EffectsTo, EffectsOn};
 
 // The effect by pairs: prohibited ones in the lower byte of the marks, required ones in the upper. It has no branch, and cells side by side
 // become vector code.
@@ -27,20 +25,10 @@ fn effect_by_pairs(memory: u32, marks: u32) -> u32
     SPAN * priority as u32 + next.word
 }
 
-// The effect of marks on a memory, by the rule.
-fn effect_of(rule: Rule, memory: u32, marks: u32) -> u32
-    requires { ⌜ (memory < span) × (marks < 65536) ⌝ }
-    ensures { λ r. ⌜ IsEffect rule memory marks r ⌝ }
-{
-    match rule {
-        Rule::Pairs => effect_by_pairs(memory, marks),
-    }
-}
-
-// All cells of a row have the same marks.
-fn same_marks(cells: &[u32], first: usize, m: usize) -> bool
+// 0 where all cells of a row have the same marks, so that one effect serves for all letters; else 1.
+fn stride_of(cells: &[u32], first: usize, m: usize) -> usize
     requires { ⌜ (0 < m) × (first + m ≤ length (now cells)) ⌝ }
-    ensures { λ r. ⌜ (r ≡ true → SameMarks first m (now (cells .entry))) ⌝ }
+    ensures { λ r. ⌜ Strides first m (now (cells .entry)) r ⌝ }
 {
     let marks = marks_of(cells[first]);
     let mut same = true;
@@ -50,46 +38,27 @@ fn same_marks(cells: &[u32], first: usize, m: usize) -> bool
         same = same & (marks_of(cells[first + a]) == marks);
         a += 1;
     }
-    same
-}
-
-// Writes one effect for all letters.
-fn repeat_effect(effect: u32, m: usize, effects: &mut [u32])
-    requires { ⌜ (m ≤ maxLetters) × (maxLetters ≤ length (now effects)) ⌝ }
-    ensures { λ _. ⌜ OneEffect effect m (now (effects .exit)) ⌝ }
-{
-    let mut a = 0;
-    // the first a effects are this one
-    while a < m {
-        effects[a] = effect;
-        a += 1;
+    if same {
+        return 0;
     }
+    1
 }
 
-// Writes the effect of each letter by pairs, letters side by side.
-fn write_by_pairs(memory: u32, cells: &[u32], first: usize, m: usize, effects: &mut [u32])
-    requires { ⌜ (memory < span) × (m ≤ maxLetters) × (first + m ≤ length (now cells)) × (maxLetters ≤ length (now effects)) ⌝ }
-    ensures { λ _. ⌜ EffectsOn Pairs memory first m (now (cells .entry)) (now (effects .exit)) ⌝ }
+// Writes the effects of the first n letters by pairs, letters side by side.
+fn write_by_pairs(memory: u32, cells: &[u32], first: usize, n: usize, effects: &mut [u32])
+    requires { ⌜ (memory < span) × (n ≤ maxLetters) × (first + n ≤ length (now cells)) × (maxLetters ≤ length (now effects)) ⌝ }
+    ensures { λ _. ⌜ EffectsTo Pairs memory first n (now (cells .entry)) (now (effects .exit)) ⌝ }
 {
     let mut a = 0;
     // the effects of the first a cells are written
-    while a < m {
+    while a < n {
         effects[a] = effect_by_pairs(memory, marks_of(cells[first + a]));
         a += 1;
     }
 }
 
-// Writes the effect of each letter: one loop for each rule, since a rule chosen within the loop keeps it from becoming vector code.
-fn write_each(rule: Rule, memory: u32, cells: &[u32], first: usize, m: usize, effects: &mut [u32])
-    requires { ⌜ (memory < span) × (m ≤ maxLetters) × (first + m ≤ length (now cells)) × (maxLetters ≤ length (now effects)) ⌝ }
-    ensures { λ _. ⌜ EffectsOn rule memory first m (now (cells .entry)) (now (effects .exit)) ⌝ }
-{
-    match rule {
-        Rule::Pairs => write_by_pairs(memory, cells, first, m, effects),
-    }
-}
-
-// Writes the effects of the cells of a row on its memory: once for all, or letters side by side.
+// Writes the effects of the cells of a row on its memory, and gives the stride: letter a has effect number a · stride. The rule is matched
+// here and not within the loop over letters, which it would keep from becoming vector code.
 pub(crate) fn write_effects(
     rule: Rule,
     memory: u32,
@@ -97,13 +66,14 @@ pub(crate) fn write_effects(
     first: usize,
     m: usize,
     effects: &mut [u32],
-)
+) -> usize
     requires { ⌜ (memory < span) × (m ≤ maxLetters) × (0 < m) × (first + m ≤ length (now cells)) × (maxLetters ≤ length (now effects)) ⌝ }
-    ensures { λ _. ⌜ EffectsOn rule memory first m (now (cells .entry)) (now (effects .exit)) ⌝ }
+    ensures { λ r. ⌜ EffectsOn rule memory first m r (now (cells .entry)) (now (effects .exit)) ⌝ }
 {
-    if same_marks(cells, first, m) {
-        repeat_effect(effect_of(rule, memory, marks_of(cells[first])), m, effects);
-    } else {
-        write_each(rule, memory, cells, first, m, effects);
+    let stride = stride_of(cells, first, m);
+    let n = 1 + (m - 1) * stride;
+    match rule {
+        Rule::Pairs => write_by_pairs(memory, cells, first, n, effects),
     }
+    stride
 }

@@ -16,12 +16,11 @@ ghost use mathlib.Core.Path.{_≡_};
 ghost use mathlib.Core.Bool.{false};
 ghost use Prim.Native.Nat.{_+_, _*_, _<_, _≤_};
 ghost use lib.Dec.{ltb};
-ghost use lib.ListN.{length, getD};
-ghost use Rattle.rules.specs.Limits.{maxLetters};
-ghost use Rattle.explore.specs.Cells.{span, sourceIn, memoryIn, crossingKind, stepIn};
-ghost use Rattle.explore.specs.Effects.{EffectsOn};
+ghost use lib.ListN.{length};
+ghost use Rattle.rules.specs.Basics.{pick};
+ghost use Rattle.explore.specs.Cells.{span, crossingKind, stepIn};
 ghost use Rattle.explore.specs.Filing.{Filed};
-ghost use Rattle.explore.specs.Exploring.{fewRows, StepRead, Closed, Known, RowSays, Room, Stage, FewStage, RowsSay, FewSay, ExploresAll};
+ghost use Rattle.explore.specs.Exploring.{fewRows, StepRead, Closed, Known, RowSays, Room, Stage, Begun, RowsSay, FewSay, ExploresAll};
 
 // The rows of a small index, and its slots. While few rows are known, clearing the large one would take longer than reading them.
 const FEW_ROWS: usize = 64;
@@ -38,6 +37,16 @@ const SLOTS: usize = 16384;
 pub(crate) struct Progress {
     pub row: usize,
     pub known: usize,
+}
+
+// The smaller of two numbers.
+fn min_of(a: usize, b: usize) -> usize
+    ensures { λ r. ⌜ r ≡ pick (ltb a b) a b ⌝ }
+{
+    if a < b {
+        return a;
+    }
+    b
 }
 
 // The key to which the transition of a code leads that is there.
@@ -89,46 +98,6 @@ fn read_cell(
     rows_after(n, number)
 }
 
-// Reads row i by all letters, whose effects are given, as long as there is room, and gives how many rows are known then.
-fn read_cells(
-    task: Task,
-    cells: &[u32],
-    first: usize,
-    effects: &[u32],
-    i: usize,
-    n: usize,
-    capacity: usize,
-    keys: &mut [u32],
-    heads: &mut [u16],
-    links: &mut [u16],
-    targets: &mut [u16],
-    priorities: &mut [u8],
-) -> usize
-    requires { ⌜ Closed task (now cells) × (i < n) × (first ≡ sourceIn (getD (now keys) i 0) * task .letters) × (maxLetters ≤ length (now effects)) × EffectsOn (task .rule) (memoryIn (getD (now keys) i 0)) first (task .letters) (now cells) (now effects) × Known task (now cells) capacity n (i * task .letters) (now keys) (now heads) (now links) (now targets) (now priorities) ⌝ }
-    ensures { λ r. ⌜ RowSays task (now (cells .entry)) capacity n i (now (keys .entry)) (now (keys .exit)) (now (heads .exit)) (now (links .exit)) (now (targets .entry)) (now (targets .exit)) (now (priorities .entry)) (now (priorities .exit)) r ⌝ }
-{
-    let start = i * task.letters;
-    let mut known = n;
-    let mut a = 0;
-    // row i is read by the letters below a
-    while (a < task.letters) & (known <= capacity) {
-        known = read_cell(
-            cells[first + a],
-            effects[a],
-            start + a,
-            known,
-            capacity,
-            keys,
-            heads,
-            links,
-            targets,
-            priorities,
-        );
-        a += 1;
-    }
-    known
-}
-
 // Reads row i by all letters, as long as there is room, and gives how many rows are known then.
 fn read_row(
     task: Task,
@@ -150,21 +119,26 @@ fn read_row(
     let key = keys[i];
     let first = (key / SPAN) as usize * m;
     let mut effects = [0; MAX_LETTERS as usize];
-    write_effects(rule, key % SPAN, cells, first, m, &mut effects);
-    read_cells(
-        task,
-        cells,
-        first,
-        &effects,
-        i,
-        n,
-        capacity,
-        keys,
-        heads,
-        links,
-        targets,
-        priorities,
-    )
+    let stride = write_effects(rule, key % SPAN, cells, first, m, &mut effects);
+    let mut known = n;
+    let mut a = 0;
+    // row i is read by the letters below a
+    while (a < task.letters) & (known <= capacity) {
+        known = read_cell(
+            cells[first + a],
+            effects[a * stride],
+            i * task.letters + a,
+            known,
+            capacity,
+            keys,
+            heads,
+            links,
+            targets,
+            priorities,
+        );
+        a += 1;
+    }
+    known
 }
 
 // Reads rows from number `row` on, where n are known, until all are read or more than `limit` are known. More than the capacity may be
@@ -249,7 +223,7 @@ fn read_many(
     targets: &mut [u16],
     priorities: &mut [u8],
 ) -> usize
-    requires { ⌜ Closed task (now cells) × Room (task .letters) capacity (now targets) (now priorities) (now keys) × (fewRows ≤ capacity) × FewStage task (now cells) row n (now keys) (now targets) (now priorities) ⌝ }
+    requires { ⌜ Closed task (now cells) × Room (task .letters) capacity (now targets) (now priorities) (now keys) × Begun task (now cells) capacity row n (now keys) (now targets) (now priorities) ⌝ }
     ensures { λ r. ⌜ ExploresAll task (now (cells .entry)) capacity (now (keys .entry)) (now (keys .exit)) (now (targets .entry)) (now (targets .exit)) (now (priorities .entry)) (now (priorities .exit)) r × (n ≤ r) ⌝ }
 {
     let mut heads = [0; SLOTS];
@@ -284,12 +258,16 @@ pub(crate) fn explore(
     requires { ⌜ Closed task (now cells) × Room (task .letters) capacity (now targets) (now priorities) (now keys) ⌝ }
     ensures { λ r. ⌜ ExploresAll task (now (cells .entry)) capacity (now (keys .entry)) (now (keys .exit)) (now (targets .entry)) (now (targets .exit)) (now (priorities .entry)) (now (priorities .exit)) r ⌝ }
 {
-    if capacity <= FEW_ROWS {
-        let all = read_few(task, cells, capacity, capacity, keys, targets, priorities);
-        return all.known;
-    }
-    let few = read_few(task, cells, FEW_LIMIT, FEW_ROWS, keys, targets, priorities);
-    if few.row == few.known {
+    let few = read_few(
+        task,
+        cells,
+        min_of(capacity, FEW_LIMIT),
+        min_of(capacity, FEW_ROWS),
+        keys,
+        targets,
+        priorities,
+    );
+    if (few.row == few.known) | (capacity < few.known) {
         return few.known;
     }
     read_many(

@@ -14,7 +14,6 @@
 --     places-packed, pairs-packed, packed-small     the word of an ordering holds it, and nothing else
 --     moved-packed, priority-packed     a move and a priority are the same for the places of that word
 --     marked-shifted, marked-masked      a pair is in a set, as a shift finds it, and as a word with its bit alone
---     priority-unmarked        the priority where nothing is marked
 --     from-here, from-before   what stands from a position on, and from the place before it
 --     kept-turn, rear-turn, decided-turn, digit-turn     a turn at one position
 --     digit-below              a number with one digit more stays below the next power of ten
@@ -33,12 +32,12 @@ use borrow.Author.Tests.{eqb-true, eqb-false, eq-eqb, ne-eqb, ltb-true, ltb-fals
 use Rattle.rules.specs.Basics.{pick, any, isIn, keep, tabulate}
 use Rattle.rules.specs.Records.{Marks, asTheyStood, moved, priorityWith, priorityFrom, priority, decimalFrom}
 use Rattle.rules.proofs.Bools.{by, clash, or-cases, or-left, or-right, or-none}
-use Rattle.rules.proofs.Bits.{bit-none, bit-masked, one-shifted}
+use Rattle.rules.proofs.Bits.{bit-masked, one-shifted}
 use Rattle.rules.proofs.Sets.{any-append, any-find}
 use Rattle.rules.proofs.Arrays.{tabulate-at}
-use Rattle.rules.proofs.Appearance.{kept-length, keep-append, keep-free, keep-hold, others-all, marked, priority-none, moved-length}
+use Rattle.rules.proofs.Appearance.{kept-length, keep-append, keep-free, keep-hold, others-all, moved-length}
 use Rattle.rules.proofs.RabinTables.{stood-rearranges}
-use Rattle.records.specs.Words.{limit, base, isPair, isMarked, marksIn, packed, placesOf, places, pairsIn}
+use Rattle.records.specs.Words.{limit, base, isPair, isMarked, packed, placesOf, places, pairsIn}
 
 abbrev pub AllPairs : List ℕ → Type 0
 AllPairs o = (i : ℕ) → isIn i o ≡ true → (0 < i) × (i < base)
@@ -259,13 +258,6 @@ module _ (o : List ℕ) (few : length o ≤ limit) (pairs : AllPairs o) where
   priority-packed m f g = ap (priority m) places-packed ∙ priority-padded m o (limit - length o) 1 1 f g
 
 -- ---- sets of pairs
-unmarked : (i : ℕ) → isMarked 0 i ≡ false
-unmarked i = by (isPair i) (λ e. rw (e, bit-none (i - 1))) (λ e. rw e)
-
-never-any : (b : ℕ → Bool) (o : List ℕ) → ((i : ℕ) → b i ≡ false) → any b o ≡ false
-never-any b [] h = refl
-never-any b (i ∷ o) h = rw (h i, never-any b o h)
-
 -- the bits of a byte, moved up by one so that pair 0 has one too
 pub marked-shifted : (set i : ℕ) → set < 256 → ltb i 16 && eqb (2 * set / 2 ^ (i % 16) % 2) 1 ≡ isMarked set i
 marked-shifted set zero l = let e : 2 * set / 1 % 2 ≡ 0 = rw (div-one (2 * set)) (omega arith) in rw e
@@ -288,10 +280,6 @@ marked-shifted set (suc j) l =
 pub marked-masked : (set i : ℕ) → set < 256
     → ltb i 16 && not (eqb (bitAnd (2 * set) (1 * 2 ^ (i % 16) % 2 ^ 32)) 0) ≡ isMarked set i
 marked-masked set i l = rw (one-shifted 32 (i % 16) (omega arith), bit-masked (i % 16) (2 * set)) (marked-shifted set i l)
-
--- ---- priorities
-pub priority-unmarked : (o : List ℕ) → priority (marksIn 0 0) o ≡ 1
-priority-unmarked o = priority-none (marksIn 0 0) o (never-any (marked (marksIn 0 0)) o (λ i. rw (unmarked i)))
 
 -- ---- a turn at position p, whose pair is i
 module _ (o : List ℕ) (p i : ℕ) (within : p ≤ length o) (here : i ≡ getD (0 ∷ o) p 0) where

@@ -6,10 +6,9 @@ ghost use mathlib.Core.Bool.{not};
 ghost use mathlib.Core.List.{_∷_};
 ghost use Prim.Native.Nat.{suc, _≤_, _<_, _*_, _+_, _/_, _^_};
 ghost use lib.ListN.{length, getD};
-ghost use Rattle.rules.specs.Basics.{pick, when, keep, tabulate};
+ghost use Rattle.rules.specs.Basics.{pick, keep, tabulate};
 ghost use Rattle.rules.specs.Records.{asTheyStood, moved, priority, decimal};
 ghost use Rattle.records.specs.Words.{limit, base, isPair, isMarked, marksIn, packed, places, pairsIn};
-ghost use Rattle.records.specs.Positions.{positionsOf};
 
 // The number of a pair, from 1; 0 is no pair.
 pub struct PairNumber(pub u8);
@@ -87,20 +86,6 @@ impl Record {
         let front = self.front(pairs);
         let rear = self.rear(pairs);
         Record { word: front + rear }
-    }
-
-    // The positions of the prohibited pairs as bits, bit p − 1 for position p, and 65,536 times those of the required ones.
-    pub fn positions(self, prohibited: u8, required: u8) -> u32
-        ensures { λ r. ⌜ r ≡ positionsOf (isMarked prohibited) (places (self .word)) + 65536 * positionsOf (isMarked required) (places (self .word)) ⌝ }
-    {
-        let mut at = 0;
-        let mut p = Record::LIMIT;
-        while 0 < p {
-            let pair = self.pair_at(Position(p));
-            at = 2 * at + marks_of(prohibited, required, pair);
-            p -= 1;
-        }
-        at
     }
 
     // The word of the pairs of the set, from the first place on.
@@ -186,14 +171,4 @@ fn with_digit(number: u32, pair: PairNumber) -> u32
     } else {
         10 * number + pair.0 as u32
     }
-}
-
-// Whether a pair is prohibited, and 65,536 times whether it is required: both bits are found by one shift.
-fn marks_of(prohibited: u8, required: u8, pair: PairNumber) -> u32
-    requires { ⌜ pair .0 < base ⌝ }
-    ensures { λ r. ⌜ r ≡ when (isMarked prohibited (pair .0)) 1 + 65536 * when (isMarked required (pair .0)) 1 ⌝ }
-{
-    let sets = 2 * prohibited as u32 + 131072 * required as u32;
-    let found = sets >> pair.0;
-    found % 2 + 65536 * (found / 65536 % 2)
 }

@@ -9,6 +9,7 @@
 --     with-bounds                    one pair more cannot lower the priority found, nor lift it past its own position
 --     scan-*                         what the search for the priority can find, from any position on
 --     even-satisfied, satisfied-even the two halves of the theorem
+--     moved-same, priority-same      tests that agree on a record's pairs move it alike and give it the same priority
 use mathlib.Core.Path.{_≡_, refl, sym, ap, _∙_}
 use mathlib.Core.Logic.{_⊎_, inl, inr, ⊎-elim}
 use mathlib.Core.Bool.{Bool, true, false, not, _||_, false≢true}
@@ -330,3 +331,25 @@ module _ (arr : List ℕ → List ℕ) (law : Rearranges arr) where
       → isEven (largestPriority arr (m ∷ ms) o) ≡ any (satisfied (m ∷ ms)) o
   closed-walk m ms o closed =
       bool-ext (isEven (largestPriority arr (m ∷ ms) o)) (any (satisfied (m ∷ ms)) o) (even-satisfied m ms o) (satisfied-even m ms o closed)
+
+-- ---- tests that agree on the pairs of a record
+keep-same : (b c : ℕ → Bool) (o : List ℕ) → ((i : ℕ) → isIn i o ≡ true → b i ≡ c i) → keep b o ≡ keep c o
+keep-same b c [] h = refl
+keep-same b c (i ∷ o) h =
+    rw
+    (h i (or-left (eqb i i) (isIn i o) (eq-eqb i i refl)), keep-same b c o (λ j e. h j (or-right (eqb j i) (isIn j o) e)))
+
+pub moved-same : (arr : List ℕ → List ℕ) (b c : ℕ → Bool) (o : List ℕ) → ((i : ℕ) → isIn i o ≡ true → b i ≡ c i) → moved arr b o ≡ moved arr c o
+moved-same arr b c o h = rw (keep-same b c o h, keep-same (λ i. not (b i)) (λ i. not (c i)) o (λ i e. ap not (h i e)))
+
+priority-same-from : (m n : Marks) (o : List ℕ) (p best : ℕ) → ((i : ℕ) → isIn i o ≡ true → m .prohibited i ≡ n .prohibited i)
+    → ((i : ℕ) → isIn i o ≡ true → m .required i ≡ n .required i) → priorityFrom p m o best ≡ priorityFrom p n o best
+priority-same-from m n [] p best h k = refl
+priority-same-from m n (i ∷ o) p best h k =
+    let here = or-left (eqb i i) (isIn i o) (eq-eqb i i refl) in
+    rw (h i here, k i here)
+    (priority-same-from m n o (suc p) _ (λ j e. h j (or-right (eqb j i) (isIn j o) e)) (λ j e. k j (or-right (eqb j i) (isIn j o) e)))
+
+pub priority-same : (m n : Marks) (o : List ℕ) → ((i : ℕ) → isIn i o ≡ true → m .prohibited i ≡ n .prohibited i)
+    → ((i : ℕ) → isIn i o ≡ true → m .required i ≡ n .required i) → priority m o ≡ priority n o
+priority-same m n o h k = priority-same-from m n o 1 1 h k

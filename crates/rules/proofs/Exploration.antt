@@ -4,7 +4,6 @@
 --     found-met      one transition more keeps it
 --     met-longer, met-row, by-next, by-grows     what a transition, and letters, leave of the rows found
 --     from-on, from-stop     a row more is read, or none
---     rows-enough    a larger capacity finds the same rows, where the smaller one was enough
 --     explored       at the end all rows have been read, unless there are too many
 --     rows-view      the rows found are exactly the reachable ones, each once, in order of discovery; full exactly if more than c are reachable
 use mathlib.Core.Path.{_≡_, refl, sym, ap, _∙_, subst}
@@ -16,7 +15,7 @@ use native.Mathlib.Omega.{arith}
 use lib.Dec.{ltb, leb}
 use lib.ListN.{length, getD, length-append, List·getD-append}
 use lib.Seq.{getD-append-seam}
-use borrow.Author.Tests.{ltb-true, ltb-false, le-ltb, leb-true, leb-false, le-leb}
+use borrow.Author.Tests.{ltb-true, ltb-false, leb-true, leb-false}
 use Rattle.rules.specs.Rows.{Plan, SameIsEqual, placeOf, numberOf, met, foundBy, foundFrom, rowsOf, isFull, rowAt, Reached, first-row, next-row, Distinct, Earlier, Discovered, MoreThan, RowsAre}
 use Rattle.rules.proofs.Bools.{by, clash, and-both, and-parts}
 use Rattle.rules.proofs.Pigeonhole.{pigeonhole}
@@ -253,28 +252,6 @@ module _ {A : Type 0} (g : Plan A) (law : SameIsEqual g) where
   pub from-stop : (n i c : ℕ) (rs : List A) → ltb i (length rs) && leb (length rs) c ≡ false → foundFrom n i g c rs ≡ rs
   from-stop zero i c rs e = refl
   from-stop (suc n) i c rs e = from-end n i c rs e
-
-  -- a larger capacity, and more rows that may be read, find nothing more where not too many are found
-  from-enough : (n n′ i c c′ : ℕ) (rs : List A) → c ≤ c′ → n ≤ n′ → c < i + n → length (foundFrom n i g c rs) ≤ c
-      → foundFrom n′ i g c′ rs ≡ foundFrom n i g c rs
-  from-enough zero n′ i c c′ rs le fuel over few = from-stop n′ i c′ rs (rw (le-ltb i (length rs) (omega arith)))
-  from-enough (suc n) zero i c c′ rs le fuel over few = absurd (omega arith)
-  from-enough (suc n) (suc n′) i c c′ rs le fuel over few =
-      by
-      (ltb i (length rs) && leb (length rs) c)
-      (λ e. let p = and-parts (ltb i (length rs)) (leb (length rs) c) e in let wide = le-leb (length rs) c′ (omega (arith, leb-true (length rs) c (p .1))) in from-on n′ i c′ rs (and-both (ltb i (length rs)) (leb (length rs) c′) (p .0) wide) ∙ from-enough n n′ (suc i) c c′ (foundBy (g .letters) 0 g (rowAt g rs i) rs) le (omega arith) (omega arith) (rw (from-on n i c rs e) at few) ∙ sym (from-on n i c rs e))
-      (λ e. from-stop (suc n′) i c′ rs (done e) ∙ sym (from-stop (suc n) i c rs e))
-    where
-      done : ltb i (length rs) && leb (length rs) c ≡ false → ltb i (length rs) && leb (length rs) c′ ≡ false
-      done e =
-          let l : length rs ≤ c = rw (from-stop (suc n) i c rs e) at few in
-          let z : ltb i (length rs) ≡ false = by (ltb i (length rs)) (λ h. clash (and-both (ltb i (length rs)) (leb (length rs) c) h (le-leb (length rs) c l)) e) (λ h. h) in
-          rw z
-
-  pub rows-enough : (c c′ : ℕ) → c ≤ c′ → isFull g c ≡ false → rowsOf g c′ ≡ rowsOf g c
-  unfolding rowsOf
-  rows-enough c c′ le fits =
-      from-enough (suc c) (suc c′) 0 c c′ (g .first ∷ []) le (omega arith) (omega arith) (omega (arith, ltb-false c (length (foundFrom (suc c) 0 g c (g .first ∷ []))) fits))
 
   -- the rows found, all of them read unless there are too many
   record Explored (c : ℕ) (rs : List A) : Type 0 where

@@ -13,6 +13,7 @@ pub mod Agreement
 pub mod Exploration
 pub mod Arrays
 pub mod Coding
+pub mod Reading
 pub mod Filling
 pub mod Steps
 pub mod Refusals

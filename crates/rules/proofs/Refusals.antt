@@ -6,6 +6,7 @@
 --     taken-word       what holds of a word that is taken
 --     taken-parity     what holds of a parity table that is taken
 --     parity-none      a parity table with nothing to refuse
+--     fault-below      the refusals of a table are those up to the marks'
 use mathlib.Core.Path.{_≡_, refl}
 use mathlib.Core.Bool.{Bool, true, false, _||_}
 use mathlib.Core.List.{List}
@@ -16,7 +17,7 @@ use lib.Dec.{eqb, ltb, leb}
 use lib.ListN.{length, take}
 use borrow.Author.Tests.{eqb-false, ne-eqb, ltb-false, le-ltb, leb-false}
 use Rattle.rules.specs.Basics.{firstOf, when}
-use Rattle.rules.specs.Limits.{maxStates, maxLetters, maxPairs, maxRows, maxPiece, noState, noRow}
+use Rattle.rules.specs.Limits.{maxStates, maxLetters, maxPairs, maxRows, maxPiece, headerSize, noState, noRow}
 use Rattle.rules.specs.Refusals as Refusal
 use Rattle.rules.specs.Runs.{strayLetter}
 use Rattle.rules.specs.Tables.{tableOf, tableFault, sizesFault, tableLength, targetFault, marksFault}
@@ -158,3 +159,25 @@ pub parity-none : (n m : ℕ) (ts ps : List ℕ) → 1 ≤ n → n ≤ maxRows �
 parity-none n m ts ps n1 nm m1 mm lt lp h =
     rw
     (ne-eqb n 0 (λ e. omega arith), le-ltb maxRows n nm, ne-eqb m 0 (λ e. omega arith), le-ltb maxLetters m mm, le-ltb (length ts) (n * m) lt, le-ltb (length ps) (n * m) lp, h)
+
+-- ---- the largest refusal of a table
+when-below : {k : ℕ} (b : Bool) (n : ℕ) → n ≤ k → when b n ≤ k
+when-below true n l = l
+when-below false n l = omega arith
+
+first-below : {k r : ℕ} (b : Bool) (n : ℕ) → n ≤ k → r ≤ k → firstOf (when b n) r ≤ k
+first-below true zero l h = h
+first-below true (suc n) l h = l
+first-below false n l h = h
+
+pub fault-below : (bs : List ℕ) → tableFault bs ≤ Refusal.marks
+unfolding tableFault
+fault-below bs =
+    let t = tableOf bs in
+    first-below (ltb (length bs) headerSize) Refusal.short (omega arith)
+    (first-below (sizesFault (t .states) (t .letters) (t .pairs)) Refusal.sizes (omega arith)
+    (first-below (ltb (length bs) (tableLength (t .states) (t .letters))) Refusal.short (omega arith)
+    (first-below (ltb (tableLength (t .states) (t .letters)) (length bs)) Refusal.long (omega arith)
+    (first-below (leb (t .states) (t .start)) Refusal.start (omega arith)
+    (first-below (targetFault (t .states) noState (t .targets)) Refusal.target (omega arith)
+    (when-below (marksFault (t .pairs) (t .targets) (t .marks)) Refusal.marks (omega arith)))))))

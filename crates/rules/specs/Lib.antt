@@ -1,5 +1,6 @@
 -- The rules: document 01 as definitions, bottom first.
 pub mod Basics
+pub mod Arrays
 pub mod Limits
 pub mod Refusals
 pub mod Systems

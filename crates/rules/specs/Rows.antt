@@ -21,6 +21,8 @@
 --                              than c, which is full
 --     targetNumber g none rs r a     the number of the row to which r leads by a, `none` where the transition is missing
 --     allTargets, allPriorities     one list for each row, joined
+--     Read g none rs p ts ps   the cells below p are read: ts has the number of the row to which each leads among rs, `none` where the
+--                              transition is missing, and ps its priority
 --     Row                      a source state with a memory (a state of the parity automaton)
 --     row q m                  the row of state q and memory m
 --     sources rs               the source state of each row
@@ -38,7 +40,7 @@ use Prim.Native.Nat.{ℕ, zero, suc, _<_}
 use lib.Dec.{eqb, ltb, leb}
 use lib.ListN.{length, getD}
 use Rattle.rules.specs.Basics.{pick, tabulate, joined}
-use Rattle.rules.specs.Systems.{System, isInside}
+use Rattle.rules.specs.Systems.{System, cell, isInside}
 
 pub record Step (A : Type 0) : Type 0 where
   pub there : Bool
@@ -131,6 +133,13 @@ allTargets g none rs = joined (λ r. tabulate (g .letters) 0 (targetNumber g non
 
 abbrev pub allPriorities : {A : Type 0} → Plan A → List A → List ℕ
 allPriorities g rs = joined (λ r. tabulate (g .letters) 0 (λ a. g .step r a .prio)) rs
+
+pub record Read {A : Type 0} (g : Plan A) (none : ℕ) (rs : List A) (p : ℕ) (ts ps : List ℕ) : Type 0 where
+  pub targets : (j a : ℕ) → a < g .letters → cell (g .letters) j a < p → getD ts (cell (g .letters) j a) 0 ≡ targetNumber g none rs (rowAt g rs j) a
+  pub priorities : (j a : ℕ) → a < g .letters → cell (g .letters) j a < p → getD ps (cell (g .letters) j a) 0 ≡ g .step (rowAt g rs j) a .prio
+  -- what is read leads to rows that are known
+  pub closed : (j a : ℕ) → a < g .letters → cell (g .letters) j a < p → g .step (rowAt g rs j) a .there ≡ true
+      → numberOf g (g .step (rowAt g rs j) a .to) rs < length rs
 
 -- rows of a transition system
 pub record Row (M : Type 0) : Type 0 where

@@ -1,28 +1,27 @@
 -- The codes of a table's cells stand for its plan.
---     moved-same, priority-same      tests that agree on a record's pairs move it alike and give it the same priority
 --     table-codes          the plan of the keys codes the table's
 --     table-fit            the task can be explored where no array is too short
 use mathlib.Core.Path.{_≡_, refl, sym, ap, _∙_}
-use mathlib.Core.Bool.{Bool, true, false, not, _&&_, false≢true, and-false}
-use mathlib.Core.List.{List, [], _∷_}
+use mathlib.Core.Bool.{Bool, true, false, _&&_, false≢true, and-false}
+use mathlib.Core.List.{List}
 use Prim.Native.Nat.{ℕ, suc, _+_, _-_, _*_, _/_, _%_, _≤_, _<_}
 use native.Mathlib.Nat.{mul-div-cancel}
 use native.Mathlib.Omega.{arith}
-use lib.Dec.{eqb, ltb, leb}
+use lib.Dec.{eqb, leb}
 use lib.ListN.{getD}
 use lib.Pow.{pow-mono}
 use borrow.Author.Tests.{eqb-true, eq-eqb, ne-eqb, lt-ltb, le-ltb, leb-true, leb-false, le-leb, lt-leb}
-use Rattle.rules.specs.Basics.{any, isIn, keep}
+use Rattle.rules.specs.Basics.{any, isIn}
 use Rattle.rules.specs.Limits.{maxLetters, maxPairs}
 use Rattle.rules.specs.Codings.{Codes}
-use Rattle.rules.specs.Records.{Marks, asTheyStood, moved, priorityFrom, priority}
+use Rattle.rules.specs.Records.{asTheyStood, moved, priority}
 use Rattle.rules.specs.Rows.{Step, Row, row, Plan}
 use Rattle.rules.specs.Systems.{cell, isInside}
 use Rattle.rules.specs.Tables.{Table, tableOf, targetOf, prohibits, requires, counts, rising, systemOf, marksOf, recordKeeper, tablePlan}
-use Rattle.rules.proofs.Appearance.{moved-length}
+use Rattle.rules.proofs.Appearance.{moved-length, moved-same, priority-same}
 use Rattle.rules.proofs.Arrays.{cell-split}
 use Rattle.rules.proofs.Bits.{as-bits-below, as-bits-at}
-use Rattle.rules.proofs.Bools.{by, bool-ext, or-left, or-right}
+use Rattle.rules.proofs.Bools.{by, bool-ext}
 use Rattle.rules.proofs.RabinTables.{table-same, stood-rearranges, ordering-holds, counted-parts, moved-ordering}
 use Rattle.rules.specs.Says.{areShort}
 use Rattle.rules.proofs.Refusals.{TakenTable, taken-table}
@@ -37,28 +36,6 @@ use Rattle.explore.specs.Cells as Key
 use Rattle.explore.specs.Effects.{effectBy, keyPlan}
 use Rattle.explore.specs.Exploring.{statesIn, isUnfit}
 use Rattle.translate.specs.Cells.{cutMarks, entryKey, cellCode, taskOf, TableCodes}
-
--- ---- tests that agree on the pairs of a record
-keep-same : (b c : ℕ → Bool) (o : List ℕ) → ((i : ℕ) → isIn i o ≡ true → b i ≡ c i) → keep b o ≡ keep c o
-keep-same b c [] h = refl
-keep-same b c (i ∷ o) h =
-    rw
-    (h i (or-left (eqb i i) (isIn i o) (eq-eqb i i refl)), keep-same b c o (λ j e. h j (or-right (eqb j i) (isIn j o) e)))
-
-pub moved-same : (b c : ℕ → Bool) (o : List ℕ) → ((i : ℕ) → isIn i o ≡ true → b i ≡ c i) → moved asTheyStood b o ≡ moved asTheyStood c o
-moved-same b c o h = rw (keep-same b c o h, keep-same (λ i. not (b i)) (λ i. not (c i)) o (λ i e. ap not (h i e)))
-
-priority-same-from : (m n : Marks) (o : List ℕ) (p best : ℕ) → ((i : ℕ) → isIn i o ≡ true → m .prohibited i ≡ n .prohibited i)
-    → ((i : ℕ) → isIn i o ≡ true → m .required i ≡ n .required i) → priorityFrom p m o best ≡ priorityFrom p n o best
-priority-same-from m n [] p best h k = refl
-priority-same-from m n (i ∷ o) p best h k =
-    let here = or-left (eqb i i) (isIn i o) (eq-eqb i i refl) in
-    rw (h i here, k i here)
-    (priority-same-from m n o (suc p) _ (λ j e. h j (or-right (eqb j i) (isIn j o) e)) (λ j e. k j (or-right (eqb j i) (isIn j o) e)))
-
-pub priority-same : (m n : Marks) (o : List ℕ) → ((i : ℕ) → isIn i o ≡ true → m .prohibited i ≡ n .prohibited i)
-    → ((i : ℕ) → isIn i o ≡ true → m .required i ≡ n .required i) → priority m o ≡ priority n o
-priority-same m n o h k = priority-same-from m n o 1 1 h k
 
 -- ---- the parts of an inside code
 parts-low : (x y : ℕ) → y < 65536 → Key.marksIn (Key.insideCode x y) ≡ y
@@ -145,7 +122,7 @@ module _ (bs : List ℕ) (taken : Taken bs) (cells : List ℕ) (codes : TableCod
         ∙ ap (λ (x : ℕ). both x ((P + 256 * Q) / 256) (places (packed (r .memory)))) marks-low
         ∙ ap (λ (x : ℕ). both P x (places (packed (r .memory)))) marks-high
         ∙ ap (λ (x : ℕ). Key.span * x + packed (moved asTheyStood (isMarked P) (places (packed (r .memory))))) (priority-packed (r .memory) (good .few) (row-pairs t few r good) (marksIn P Q) refl refl ∙ priority-same (marksIn P Q) (marksOf t q a) (r .memory) (cut-marked (prohibits t q a)) (cut-marked (requires t q a)))
-        ∙ ap (λ (x : ℕ). Key.span * priority (marksOf t q a) (r .memory) + x) (moved-packed (r .memory) (good .few) (row-pairs t few r good) (isMarked P) refl ∙ ap packed (moved-same (isMarked P) (prohibits t q a) (r .memory) (cut-marked (prohibits t q a))))
+        ∙ ap (λ (x : ℕ). Key.span * priority (marksOf t q a) (r .memory) + x) (moved-packed (r .memory) (good .few) (row-pairs t few r good) (isMarked P) refl ∙ ap packed (moved-same asTheyStood (isMarked P) (prohibits t q a) (r .memory) (cut-marked (prohibits t q a))))
 
     -- the step of the key, from its code and the effect
     step-by : (code : ℕ) → w ≡ code → k .step v a ≡ Key.stepIn code (effectBy (taskOf t .rule) (Key.memoryIn v) (Key.marksIn code))

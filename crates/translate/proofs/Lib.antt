@@ -1,5 +1,4 @@
 -- The laws that the proofs of the functions cite.
-pub mod Clearing
 pub mod RowKeys
 pub mod CellCodes
 pub mod Coding

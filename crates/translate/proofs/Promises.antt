@@ -11,68 +11,44 @@
 --     promised                 both promises, from the first
 use mathlib.Core.Path.{_≡_, refl, sym, ap, _∙_}
 use mathlib.Core.Bool.{Bool, true, false, _||_}
-use mathlib.Core.List.{List, [], _∷_, _++_, append-nil, map}
-use Prim.Native.Nat.{ℕ, zero, suc, _-_, _*_, _<_, _≤_}
+use mathlib.Core.List.{List, [], append-nil, map}
+use Prim.Native.Nat.{ℕ, zero, suc, _*_, _<_, _≤_}
 use native.Mathlib.Nat.{zero-mul, mul-le-mul-right}
 use native.Mathlib.Omega.{arith}
-use lib.Dec.{eqb, eqb·suc-zero, ltb, leb}
-use lib.ListN.{length, getD, take, replicate, length-append, length-replicate, length-map, List·getD-append}
+use lib.Dec.{eqb, eqb·suc-zero, ltb}
+use lib.ListN.{length, getD, take, length-map}
 use lib.Seq.{getD-take, length-take-le}
-use borrow.Author.Tests.{eqb-false, ne-eqb, ltb-true, ltb-false, lt-ltb, le-ltb}
-use Rattle.rules.specs.Basics.{pick, firstOf, when, tabulate}
+use borrow.Author.Tests.{ne-eqb, ltb-false, le-ltb}
+use Rattle.rules.specs.Basics.{pick, firstOf, tabulate}
+use Rattle.rules.specs.Arrays.{Beyond, Cleared}
 use Rattle.rules.specs.Codings.{Codes}
-use Rattle.rules.specs.Limits.{maxStates, maxRows, headerSize, noState, noRow}
+use Rattle.rules.specs.Limits.{maxStates, maxRows, noRow}
 use Rattle.rules.specs.Refusals as Refusal
 use Rattle.rules.specs.Records.{decimal}
-use Rattle.rules.specs.Rows.{Row, Plan, rowsOf, isFull, allTargets, allPriorities}
-use Rattle.rules.specs.Tables.{Table, tableOf, tableFault, sizesFault, tableLength, targetFault, marksFault, tablePlan}
-use Rattle.rules.specs.Claims.{tableRows, targets, priorities, sourceStates, recordNumbers}
+use Rattle.rules.specs.Rows.{Row, Plan, rowsOf, isFull}
+use Rattle.rules.specs.Tables.{Table, tableOf, tableFault, tablePlan}
+use Rattle.rules.specs.Claims.{targets, priorities, sourceStates, recordNumbers}
 use Rattle.rules.specs.Says.{areShort, translateFault, over, padded, afterwards, TranslateSays, TranslationAgrees}
 use Rattle.rules.proofs.Bools.{by, or-none}
 use Rattle.rules.proofs.Arrays.{getD-any, cells-length, mapped-at}
 use Rattle.rules.proofs.Coding.{all-at, row-coded, rows-coded, rows-good, full-coded, targets-coded, priorities-coded}
-use Rattle.rules.proofs.Filling.{over-front, over-rest, over-length, over-is, zeros-at}
-use Rattle.rules.proofs.Refusals.{TakenTable, taken-table}
+use Rattle.rules.proofs.Filling.{beyond-then, beyond-wider, over-front, over-beyond, padded-is, filled-is, cleared-is}
+use Rattle.rules.proofs.Refusals.{taken-table, fault-below}
 use Rattle.rules.proofs.Demands.{says-agrees}
 use Rattle.tables.specs.Parts.{Taken, statesOf, Listed}
 use Rattle.tables.specs.Surveys.{surveyFault}
 use Rattle.tables.proofs.Surveying.{listed}
 use Rattle.tables.proofs.Cells.{cell-within}
 use Rattle.explore.specs.declared.Explored.{Explored}
-use Rattle.explore.specs.declared.Explored.the-variants.{Rows, Full, Unfit}
-use Rattle.explore.specs.Arrays.{Beyond}
+use Rattle.explore.specs.declared.Explored.the-variants.{Rows, Full}
 use Rattle.explore.specs.Cells.{sourceIn}
 use Rattle.explore.specs.Effects.{keyPlan}
-use Rattle.explore.specs.Exploring.{Leaves, ExploreSays}
-use Rattle.explore.proofs.Rests.{beyond-then, beyond-wider}
-use Rattle.translate.specs.Arrays.{Cleared, RowsCleared}
+use Rattle.explore.specs.Exploring.{Leaves}
+use Rattle.translate.specs.Arrays.{RowsCleared}
 use Rattle.translate.specs.Keys.{keyRow, IsKey}
 use Rattle.translate.specs.Cells.{taskOf, AllCodes, TableCodes}
 use Rattle.translate.specs.Rows.{TableExplored, Unpacked, refusalOf, rowsKept}
 use Rattle.translate.proofs.Coding.{table-codes, table-fit}
-
--- ---- refusals
-when-below : {k : ℕ} (b : Bool) (n : ℕ) → n ≤ k → when b n ≤ k
-when-below true n l = l
-when-below false n l = omega arith
-
-first-below : {k r : ℕ} (b : Bool) (n : ℕ) → n ≤ k → r ≤ k → firstOf (when b n) r ≤ k
-first-below true zero l h = h
-first-below true (suc n) l h = l
-first-below false n l h = h
-
--- the refusals of a table are those up to the marks'
-fault-below : (bs : List ℕ) → tableFault bs ≤ Refusal.marks
-unfolding tableFault
-fault-below bs =
-    let t = tableOf bs in
-    first-below (ltb (length bs) headerSize) Refusal.short (omega arith)
-    (first-below (sizesFault (t .states) (t .letters) (t .pairs)) Refusal.sizes (omega arith)
-    (first-below (ltb (length bs) (tableLength (t .states) (t .letters))) Refusal.short (omega arith)
-    (first-below (ltb (tableLength (t .states) (t .letters)) (length bs)) Refusal.long (omega arith)
-    (first-below (leb (t .states) (t .start)) Refusal.start (omega arith)
-    (first-below (targetFault (t .states) noState (t .targets)) Refusal.target (omega arith)
-    (when-below (marksFault (t .pairs) (t .targets) (t .marks)) Refusal.marks (omega arith)))))))
 
 -- a refusal that is given only with another adds nothing
 first-only : (x r : ℕ) → (x ≡ 0 → r ≡ 0) → firstOf x r ≡ x
@@ -87,44 +63,6 @@ pub survey-listed : (bs : List ℕ) (g : ℕ → ℕ) (old xs : List ℕ) (r : �
     → xs ≡ pick (eqb r 0) (over (tabulate (statesOf bs) 0 g) old) old → Listed (statesOf bs) g xs
 survey-listed bs g old xs r taken z size e =
     listed (statesOf bs) g old xs (omega (arith, taken-table bs taken .sizes .most-states)) (rw z at e)
-
--- ---- arrays
-zeros-behind : (xs : List ℕ) (j i : ℕ) → length xs ≤ i → getD (xs ++ replicate j 0) i 0 ≡ 0
-zeros-behind [] j i l = zeros-at j i
-zeros-behind (x ∷ xs) j zero l = absurd (omega arith)
-zeros-behind (x ∷ xs) j (suc i) l = zeros-behind xs j i (omega arith)
-
--- an array with xs at its front, then zeros up to k, then what it held
-padded-is : {n k : ℕ} {old mid new : List ℕ} (xs : List ℕ) → length xs ≡ n → n ≤ k → k ≤ length old → Beyond k old mid → Cleared n k mid new
-    → ((i : ℕ) → i < n → getD mid i 0 ≡ getD xs i 0) → new ≡ padded k xs old
-padded-is {n} {k} {old} {mid} {new} xs size few room rest clear front =
-    over-is (xs ++ zeros) old new (omega (arith, all)) (clear .size ∙ rest .size) (λ i b. below i (omega (arith, all)))
-    (λ i b. let l : k ≤ i = omega (arith, all) in clear .rest i l ∙ rest .same i l)
-  where
-    zeros : List ℕ
-    zeros = replicate (k - length xs) 0
-
-    all : length (xs ++ zeros) ≡ k
-    all = simp (length-append, length-replicate) (omega arith)
-
-    below : (i : ℕ) → i < k → getD new i 0 ≡ getD (xs ++ zeros) i 0
-    below i b =
-        by
-        (ltb i n)
-        (λ e. let l = ltb-true i n e in clear .front i l ∙ front i l ∙ sym (List·getD-append xs zeros 0 i (omega arith)))
-        (λ e. let l = ltb-false i n e in clear .zeros i l b ∙ sym (zeros-behind xs (k - length xs) i (omega arith)))
-
-cleared-is : {n k : ℕ} {old mid new : List ℕ} → n ≡ 0 → k ≤ length old → Beyond k old mid → Cleared n k mid new → new ≡ padded k [] old
-cleared-is z room rest clear = padded-is [] (sym z) (omega arith) room rest clear (λ i b. absurd (omega arith))
-
--- an array with other contents at its front keeps what stands behind them
-over-beyond : {k : ℕ} {old mid : List ℕ} (xs : List ℕ) → mid ≡ over xs old → length xs ≤ k → k ≤ length old → Beyond k old mid
-over-beyond {k} {old} {mid} xs e few room =
-    rw e (record { size = over-length xs old (omega arith); same = λ i l. over-rest xs old i (omega arith) })
-
-filled-is : {n k : ℕ} (old : List ℕ) {mid new : List ℕ} (xs : List ℕ) → length xs ≡ n → n ≤ k → k ≤ length old → mid ≡ over xs old → Cleared n k mid new → new ≡ padded k xs old
-filled-is old xs size few room e clear =
-    padded-is xs size few room (over-beyond xs e (omega arith) room) clear (λ i l. rw e (over-front xs old i (omega arith)))
 
 -- the codes of a table, cut from a longer array
 pub codes-cut : (t : Table) (cells : List ℕ) (used : ℕ) → used ≡ t .states * t .letters → AllCodes t cells → TableCodes t (take used cells)

@@ -10,7 +10,7 @@ use lib.Seq.{getD-set-same, getD-set-other}
 use borrow.Author.Tests.{eqb-true, eqb-false}
 use Rattle.rules.proofs.Bools.{by}
 use Rattle.explore.specs.Cells.{sourceIn}
-use Rattle.explore.proofs.Rests.{beyond-none, beyond-set, beyond-then, beyond-wider}
+use Rattle.rules.proofs.Filling.{beyond-none, beyond-set, beyond-then, beyond-wider}
 use Rattle.translate.specs.Keys.{numberIn}
 use Rattle.translate.specs.Rows.{Unpacked}
 

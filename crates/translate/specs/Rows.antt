@@ -11,7 +11,7 @@ use Rattle.rules.specs.Refusals as Refusal
 use Rattle.rules.specs.Tables.{Table}
 use Rattle.explore.specs.declared.Explored.{Explored}
 use Rattle.explore.specs.declared.Explored.the-variants.{Rows, Full, Unfit}
-use Rattle.explore.specs.Arrays.{Beyond}
+use Rattle.rules.specs.Arrays.{Beyond}
 use Rattle.explore.specs.Cells.{sourceIn}
 use Rattle.explore.specs.Exploring.{ExploreSays}
 use Rattle.translate.specs.Keys.{numberIn}

@@ -5,16 +5,16 @@ use Prim.Native.Nat.{_-_}
 use native.Mathlib.Omega.{arith}
 use lib.ListN.{length, length-set}
 use Rattle.explore.specs.declared.Rule.the-variants.{Pairs}
-use Rattle.explore.specs.Effects.{EffectsOn}
-use Rattle.explore.proofs.Alike.{effects-none, effects-more, effects-all}
+use Rattle.explore.specs.Effects.{EffectsTo}
+use Rattle.explore.proofs.Alike.{effects-none, effects-more}
 use Rattle.explore.proofs.effects.write_by_pairs.Statement.{statement}
 use Rattle.explore.proofs.effects.write_by_pairs.Tie as tie
 
 abbrev Inv-loop : tie.InvT-loop
-Inv-loop memory cells first m effects₀ a₀ effects a = EffectsOn Pairs memory first a cells effects × (length effects ≡ length effects₀)
+Inv-loop memory cells first n effects₀ a₀ effects a = EffectsTo Pairs memory first a cells effects × (length effects ≡ length effects₀)
 
 abbrev μ-loop : tie.MeasureT-loop
-μ-loop memory cells first m effects₀ a₀ effects a = m - a
+μ-loop memory cells first n effects₀ a₀ effects a = n - a
 
 loop-holds : tie.Need-loop-holds Inv-loop μ-loop
 loop-holds c = let s = c .before .before .args in (effects-none Pairs (s .memory) (s .first) (s .cells .now) (s .effects .now), refl)
@@ -34,9 +34,8 @@ loop-again c =
 
 returns : tie.Need-returns Inv-loop μ-loop
 returns c =
-    let u = c .before .before .before .before .args in
     let turn = c .before .loop in
-    effects-all Pairs (u .memory) (u .first) (turn .a) (u .m) (u .cells .now) (turn .effects) (c .loop-test .left) (turn .inv .0)
+    λ b l. turn .inv .0 b (omega (arith, c .loop-test .left))
 
 pub write-by-pairs-spec : {M : Type 1} → statement M
 write-by-pairs-spec =

@@ -10,15 +10,16 @@ use Rattle.explore.proofs.rows.read_many.Tie as tie
 index-keys-requires : tie.Need-index-keys-requires
 index-keys-requires c κs =
     let s = c .before .before .before .before .before .before .before in
-    let f = s .pre .3 .stage .known .filed in
-    (omega (arith, f .few, s .pre .2, s .pre .1 .most-rows), omega (arith, f .few, f .key-room), omega arith, omega (arith, f .few, s .pre .2, s .pre .1 .most-rows), zeros-at 16384)
+    let b = s .pre .2 in
+    let f = b .stage .known .filed in
+    (omega (arith, f .few, b .within, s .pre .1 .most-rows), omega (arith, f .few, f .key-room), omega arith, omega (arith, f .few, b .within, s .pre .1 .most-rows), zeros-at 16384)
 
 read-rows-requires : tie.Need-read-rows-requires
 read-rows-requires c κs =
     let s = c .before .before .before .before .before .before .before .before .before .before .before .before .before .before .before in
-    let f = s .pre .3 in
+    let b = s .pre .2 in
     let x = c .before .before .before .before .before .before .before .index-keys in
-    (s .pre .0, omega arith, omega (arith, f .stage .known .filed .few, s .pre .2), stage-wider (s .args .task) (s .args .cells .now) _ _ _ _ _ (f .heads) (f .links) _ _ _ _ (s .pre .2) (s .pre .1) (omega (arith, x .kept .1 .1 .0)) (omega (arith, x .kept .1 .1 .1 .0, s .pre .1 .most-rows)) (x .ensures) (f .stage))
+    (s .pre .0, omega arith, omega (arith, b .stage .known .filed .few, b .within), stage-wider (s .args .task) (s .args .cells .now) _ _ _ _ _ (b .heads) (b .links) _ _ _ _ (b .within) (s .pre .1) (omega (arith, x .kept .1 .1 .0)) (omega (arith, x .kept .1 .1 .1 .0, s .pre .1 .most-rows)) (x .ensures) (b .stage))
 
 returns : tie.Need-returns
 returns c =
