@@ -1,9 +1,7 @@
--- What the functions below the calls ask and leave, by name. A system is one in an array of targets; marks are an array of words.
+-- What the functions below the calls ask and leave, by name.
 --     Taken bs               the bytes are a table that is taken
 --     statesOf bs            its number of states
 --     systemIn bs            its transition system
---     requiredIn m marks i   the test that bit i stands for: the transition of p by a, if it is inside, makes pair i + 1 count
---     pairBits               how many bits a set of pairs has
 --     Listed n f xs          the first n entries of xs are f 0, f 1 ..
 --     Gathered s b k q sets  the entry of each component's number holds, as bits, the tests b i of k that some inside transition of one of
 --                            its states below q passes; for any system and any tests
@@ -11,13 +9,13 @@
 use mathlib.Core.Path.{_≡_}
 use mathlib.Core.Bool.{Bool, _&&_}
 use mathlib.Core.List.{List}
-use Prim.Native.Nat.{ℕ, _*_, _/_, _^_, _<_, _≤_}
+use Prim.Native.Nat.{ℕ, _*_, _^_, _<_, _≤_}
 use lib.Dec.{eqb}
 use lib.ListN.{length, getD}
 use Rattle.rules.specs.Basics.{bit, anyBelow}
 use Rattle.rules.specs.Judges.{paritySystem}
 use Rattle.rules.specs.Limits.{maxStates, maxLetters}
-use Rattle.rules.specs.Systems.{System, isInside, componentOf, cell}
+use Rattle.rules.specs.Systems.{System, isInside, componentOf}
 use Rattle.rules.specs.Tables.{tableOf, tableFault, systemOf}
 
 abbrev pub Taken : List ℕ → Type 0
@@ -28,12 +26,6 @@ statesOf bs = tableOf bs .states
 
 abbrev pub systemIn : List ℕ → System
 systemIn bs = systemOf (tableOf bs)
-
-abbrev pub requiredIn : ℕ → List ℕ → ℕ → ℕ → ℕ → Bool
-requiredIn m marks i p a = bit i (getD marks (cell m p a) 0 / 256)
-
-abbrev pub pairBits : ℕ
-pairBits = 8
 
 pub record Listed (n : ℕ) (f : ℕ → ℕ) (xs : List ℕ) : Type 0 where
   pub enough : n ≤ length xs

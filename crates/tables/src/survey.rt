@@ -5,11 +5,12 @@ ghost use mathlib.Core.Bool.{_&&_};
 ghost use Prim.Native.Nat.{ℕ, _/_, _<_, _≤_};
 ghost use lib.Dec.{eqb, ltb};
 ghost use lib.ListN.{length, getD};
-ghost use Rattle.rules.specs.Basics.{pick, bit, anyBelow, tabulate, asBits};
+ghost use Rattle.rules.specs.Basics.{pick, bit, anyBelow, tabulate};
 ghost use Rattle.rules.specs.Judges.{paritySystem};
-ghost use Rattle.rules.specs.Systems.{isInside, metWithin};
+ghost use Rattle.rules.specs.Systems.{isInside};
 ghost use Rattle.rules.specs.Says.{over};
-ghost use Rattle.tables.specs.Parts.{requiredIn, pairBits, Gathered, CellsRoom};
+ghost use Rattle.tables.specs.Layouts.{requiredIn, pairBits, countedIn};
+ghost use Rattle.tables.specs.Parts.{Gathered, CellsRoom};
 
 // The target is a state, and its home is `home`.
 fn is_home(homes: &[u16], n: usize, home: u16, target: u16) -> bool
@@ -86,7 +87,7 @@ pub(crate) fn write_counted(
     out: &mut [u8],
 )
     requires { ⌜ CellsRoom n m (now targets) (now marks) (now homes) × (n ≤ length (now out)) ⌝ }
-    ensures { λ _. ⌜ now (out .exit) ≡ over (tabulate n 0 (λ q. asBits pairBits (λ i. metWithin (paritySystem n m (now (targets .entry))) (requiredIn m (now (marks .entry)) i) q))) (now (out .entry)) ⌝ }
+    ensures { λ _. ⌜ now (out .exit) ≡ over (tabulate n 0 (countedIn n m (now (targets .entry)) (now (marks .entry)))) (now (out .entry)) ⌝ }
 {
     let mut sets = [0; MAX_STATES as usize];
     gather(n, m, targets, marks, homes, &mut sets);

@@ -14,7 +14,7 @@ use Rattle.tables.specs.Parts.{Taken, statesOf, systemIn, Listed}
 use Rattle.tables.specs.Layouts.{targetCells, TargetsLaid}
 use Rattle.tables.proofs.Refused.{targets-part}
 use Rattle.tables.proofs.Cells.{target-count}
-use Rattle.tables.proofs.Laid.{targets-written, targets-laid, laid-homes}
+use Rattle.tables.proofs.Laying.{targets-written, targets-laid, is-table, laid-homes}
 use Rattle.tables.proofs.Surveying.{component-below}
 use Rattle.tables.proofs.Promises.{components-refused, components-short, components-found}
 use Rattle.tables.proofs.find_components.Statement.{statement}
@@ -67,7 +67,7 @@ homes-listed : (c : tie.After-find-homes) → let bs = bytes (c .before .before 
 homes-listed c =
     let l = c .before .before .before .before in
     let e = first l in
-    laid-homes (bytes e) (taken e) (targets l) (laid l) _ _ (omega (arith, c .find-homes .kept .1 .1 .1 .0, known e)) (c .find-homes .ensures)
+    laid-homes (tableOf (bytes e)) (is-table (bytes e) (taken e)) (targets l) (laid l) _ _ (omega (arith, c .find-homes .kept .1 .1 .1 .0, known e)) (c .find-homes .ensures)
 
 narrow-requires : tie.Need-narrow-requires
 narrow-requires c κs =

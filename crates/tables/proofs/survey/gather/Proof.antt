@@ -6,7 +6,8 @@ use native.Mathlib.Nat.{le-antisymm}
 use native.Mathlib.Omega.{arith}
 use lib.ListN.{length, getD, length-set}
 use Rattle.rules.specs.Judges.{paritySystem}
-use Rattle.tables.specs.Parts.{requiredIn, pairBits, Gathered}
+use Rattle.tables.specs.Parts.{Gathered}
+use Rattle.tables.specs.Layouts.{requiredIn, pairBits}
 use Rattle.tables.proofs.Surveying.{component-below, gathered-more}
 use Rattle.tables.proofs.survey.gather.Statement.{statement}
 use Rattle.tables.proofs.survey.gather.Tie as tie

@@ -11,7 +11,7 @@ use Rattle.rules.specs.Limits.{noRow}
 use Rattle.rules.specs.Systems.{cell, isInside}
 use Rattle.rules.proofs.Arrays.{getD-any}
 use Rattle.rules.proofs.Bits.{bit-none}
-use Rattle.tables.specs.Parts.{requiredIn}
+use Rattle.tables.specs.Layouts.{requiredIn}
 use Rattle.tables.proofs.Cells.{cell-within, row-within}
 use Rattle.tables.proofs.Surveying.{home-inside, MetBelow, met-more}
 use Rattle.tables.proofs.survey.met_pairs.Statement.{statement}

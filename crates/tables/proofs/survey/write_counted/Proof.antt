@@ -9,7 +9,7 @@ use Rattle.rules.specs.Says.{over}
 use Rattle.rules.specs.Systems.{System}
 use Rattle.rules.proofs.Arrays.{tabulate-same}
 use Rattle.rules.proofs.Filling.{zeros-at}
-use Rattle.tables.specs.Parts.{requiredIn, pairBits}
+use Rattle.tables.specs.Layouts.{requiredIn, pairBits}
 use Rattle.tables.proofs.Surveying.{component-below, gathered-none, gathered-met}
 use Rattle.tables.proofs.survey.write_counted.Statement.{statement}
 use Rattle.tables.proofs.survey.write_counted.Tie as tie

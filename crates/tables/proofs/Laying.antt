@@ -3,7 +3,8 @@
 --     targets-written, marks-written     what is laid out of the parts of the bytes is the table's
 --     targets-laid, marks-laid           an array with the table's targets or marks at its front, by state and letter
 --     laid-go, go-laid       the system in the array of targets has the table's transitions, and no others
---     laid-components, laid-homes     its components are the table's
+--     is-table               a table that is taken has sizes in range
+--     laid-homes             its components are the table's
 --     laid-counted           what its inside transitions require is what counts in the table
 use mathlib.Core.Path.{_≡_, refl, sym, ap, _∙_}
 use mathlib.Core.Bool.{Bool, true, false, _&&_}
@@ -18,7 +19,7 @@ use borrow.Author.Tests.{eqb-true, eqb-false, ne-eqb}
 use Rattle.rules.specs.Basics.{pick, bit, anyBelow, tabulate, asBits}
 use Rattle.rules.specs.Judges.{paritySystem}
 use Rattle.rules.specs.Limits.{headerSize, maxStates, maxPairs, noState, noRow}
-use Rattle.rules.specs.Says.{over, components}
+use Rattle.rules.specs.Says.{over}
 use Rattle.rules.specs.Systems.{System, componentOf, metWithin, cell}
 use Rattle.rules.specs.Tables.{Table, tableOf, systemOf, targetOf, prohibitedByte, requiredByte, requires, counts}
 use Rattle.rules.proofs.Arrays.{getD-any, tabulate-same}
@@ -28,8 +29,8 @@ use Rattle.rules.proofs.Reach.{met-view}
 use Rattle.rules.proofs.Filling.{over-at}
 use Rattle.rules.proofs.Refusals.{TakenTable, taken-table}
 use Rattle.components.proofs.Reaching.{SameGo, same-component, same-met}
-use Rattle.tables.specs.Layouts.{wideTarget, targetIn, marksIn, TargetsLaid, MarksLaid, targetCells, markCells, countedPairs, countedSets}
-use Rattle.tables.specs.Parts.{Taken, requiredIn, pairBits, Listed}
+use Rattle.tables.specs.Layouts.{wideTarget, targetIn, marksIn, TargetsLaid, MarksLaid, targetCells, markCells, IsTable, countedPairs, requiredIn, pairBits, countedIn}
+use Rattle.tables.specs.Parts.{Taken, Listed}
 use Rattle.tables.proofs.Cells.{cell-within, target-count, marks-small}
 
 -- ---- sets of pairs with more bits than there are pairs
@@ -86,54 +87,62 @@ module _ (bs : List ℕ) (taken : Taken bs) where
   pub marks-laid : (old ms : List ℕ) → n * m ≤ length ms → ms ≡ over (markCells t) old → MarksLaid t ms
   marks-laid old ms lm e = record { enough = lm; entry = λ q a l r. rw e (over-at (marksIn t) (n * m) old (cell m q a) (cell-within n m q a l r)) }
 
+  pub is-table : IsTable t
+  is-table =
+      record {
+        few-states = known .sizes .most-states;
+        few-letters = known .sizes .most-letters;
+        few-pairs = known .sizes .most-pairs;
+        start-state = known .start-state;
+        small-marks = marks-small bs taken;
+      }
+
+module _ (t : Table) (good : IsTable t) where
   module _ (ts : List ℕ) (laid : TargetsLaid t ts) where
     abbrev s : System
-    s = paritySystem n m ts
+    s = paritySystem (t .states) (t .letters) ts
 
     -- an entry is the target, unless that is missing
-    entry : (q a : ℕ) → q < n → a < m → getD ts (cell m q a) noRow ≡ wideTarget (targetOf t q a)
+    entry : (q a : ℕ) → q < t .states → a < t .letters → getD ts (cell (t .letters) q a) noRow ≡ wideTarget (targetOf t q a)
     entry q a l r =
-        getD-any ts (cell m q a) noRow 0 (omega (arith, cell-within n m q a l r, laid .enough)) ∙ laid .entry q a l r
+        getD-any ts (cell (t .letters) q a) noRow 0 (omega (arith, cell-within (t .states) (t .letters) q a l r, laid .enough)) ∙ laid .entry q a l r
 
     pub laid-go : SameGo (systemOf t) s
     laid-go =
         record {
           states = refl;
           letters = refl;
-          go = λ q a l r b. entry q a l r ∙ rw (ne-eqb (targetOf t q a) noState (λ z. omega (arith, known .sizes .most-states)));
+          go = λ q a l r b. entry q a l r ∙ rw (ne-eqb (targetOf t q a) noState (λ z. omega (arith, good .few-states)));
         }
 
     pub go-laid : SameGo s (systemOf t)
     go-laid = record { states = refl; letters = refl; go = back }
       where
-        back : (q a : ℕ) → q < n → a < m → getD ts (cell m q a) noRow < n → targetOf t q a ≡ getD ts (cell m q a) noRow
+        back : (q a : ℕ) → q < t .states → a < t .letters → getD ts (cell (t .letters) q a) noRow < t .states → targetOf t q a ≡ getD ts (cell (t .letters) q a) noRow
         back q a l r b =
             let e = entry q a l r in
             by
             (eqb (targetOf t q a) noState)
-            (λ z. let f : getD ts (cell m q a) noRow ≡ noRow = rw z at e in absurd (omega (arith, known .sizes .most-states)))
+            (λ z. let f : getD ts (cell (t .letters) q a) noRow ≡ noRow = rw z at e in absurd (omega (arith, good .few-states)))
             (λ z. sym (rw z at e))
 
-    pub laid-components : tabulate n 0 (componentOf s) ≡ components t
-    laid-components = tabulate-same (componentOf s) (componentOf (systemOf t)) n 0 (λ q l u. same-component s (systemOf t) go-laid laid-go q (omega arith))
-
-    pub laid-homes : (old hs : List ℕ) → n ≤ length hs → hs ≡ over (tabulate n 0 (componentOf s)) old → Listed n (componentOf (systemOf t)) hs
+    pub laid-homes : (old hs : List ℕ) → t .states ≤ length hs → hs ≡ over (tabulate (t .states) 0 (componentOf s)) old → Listed (t .states) (componentOf (systemOf t)) hs
     laid-homes old hs l e =
-        record { enough = l; entry = λ q b. rw e (over-at (componentOf s) n old q b) ∙ same-component s (systemOf t) go-laid laid-go q b }
+        record { enough = l; entry = λ q b. rw e (over-at (componentOf s) (t .states) old q b) ∙ same-component s (systemOf t) go-laid laid-go q b }
 
     module _ (ms : List ℕ) (marks : MarksLaid t ms) where
       -- both bytes of a cell's marks are small
       small : (q a : ℕ) → (prohibitedByte t q a < 2 ^ t .pairs) × (requiredByte t q a < 2 ^ t .pairs)
-      small q a = marks-small bs taken (cell m q a)
+      small q a = good .small-marks (cell (t .letters) q a)
 
-      required : (q a : ℕ) → q < n → a < m → getD ms (cell m q a) 0 / 256 ≡ requiredByte t q a
+      required : (q a : ℕ) → q < t .states → a < t .letters → getD ms (cell (t .letters) q a) 0 / 256 ≡ requiredByte t q a
       required q a l r =
-          let p : prohibitedByte t q a < 256 = lt-of-lt-of-le (small q a .0) (pow-mono {i = t .pairs} {j = 8} (omega (arith, known .sizes .most-pairs))) in
+          let p : prohibitedByte t q a < 256 = lt-of-lt-of-le (small q a .0) (pow-mono {i = t .pairs} {j = 8} (omega (arith, good .few-pairs))) in
           rw (marks .entry q a l r) (omega arith)
 
-      pub laid-counts : (i q : ℕ) → q < n → metWithin s (requiredIn m ms i) q ≡ counts t q (suc i)
+      pub laid-counts : (i q : ℕ) → q < t .states → metWithin s (requiredIn (t .letters) ms i) q ≡ counts t q (suc i)
       laid-counts i q l =
-          same-met s (systemOf t) go-laid laid-go (requiredIn m ms i) (λ p a. requires t p a (suc i))
+          same-met s (systemOf t) go-laid laid-go (requiredIn (t .letters) ms i) (λ p a. requires t p a (suc i))
           (λ p a lp la. let e : suc i - 1 ≡ i = omega arith in rw (e, required p a lp la)) q l
 
       none-above : (i q : ℕ) → t .pairs ≤ i → counts t q (suc i) ≡ false
@@ -141,12 +150,9 @@ module _ (bs : List ℕ) (taken : Taken bs) where
           let e : suc i - 1 ≡ i = omega arith in
           met-none (systemOf t) (λ p a. requires t p a (suc i)) q (λ p a. rw e (bit-over i (requiredByte t p a) (lt-of-lt-of-le (small p a .1) (pow-mono {i = t .pairs} {j = i} h))))
 
-      pub laid-counted : tabulate n 0 (λ q. asBits pairBits (λ i. metWithin s (requiredIn m ms i) q)) ≡ countedSets t
-      laid-counted = tabulate-same _ (countedPairs t) n 0 (λ q l u. at q (omega arith))
-        where
-          at : (q : ℕ) → q < n → asBits pairBits (λ i. metWithin s (requiredIn m ms i) q) ≡ countedPairs t q
-          at q l =
-              let e : pairBits ≡ t .pairs + (pairBits - t .pairs) = omega (arith, known .sizes .most-pairs) in
-              same-bits _ (λ i. counts t q (suc i)) pairBits (λ i. laid-counts i q l)
-              ∙ ap (λ (k : ℕ). asBits k (λ i. counts t q (suc i))) e
-              ∙ cut-bits (λ i. counts t q (suc i)) (t .pairs) (pairBits - t .pairs) (λ i h. none-above i q h)
+      pub laid-counted : (q : ℕ) → q < t .states → countedIn (t .states) (t .letters) ts ms q ≡ countedPairs t q
+      laid-counted q l =
+          let e : pairBits ≡ t .pairs + (pairBits - t .pairs) = omega (arith, good .few-pairs) in
+          same-bits _ (λ i. counts t q (suc i)) pairBits (λ i. laid-counts i q l)
+          ∙ ap (λ (k : ℕ). asBits k (λ i. counts t q (suc i))) e
+          ∙ cut-bits (λ i. counts t q (suc i)) (t .pairs) (pairBits - t .pairs) (λ i h. none-above i q h)
