@@ -4,7 +4,7 @@
 --     targets-laid, marks-laid           an array with the table's targets or marks at its front, by state and letter
 --     laid-go, go-laid       the system in the array of targets has the table's transitions, and no others
 --     is-table               a table that is taken has sizes in range
---     laid-homes             its components are the table's
+--     laid-homes-at, laid-homes     its components are the table's
 --     laid-counted           what its inside transitions require is what counts in the table
 use mathlib.Core.Path.{_≡_, refl, sym, ap, _∙_}
 use mathlib.Core.Bool.{Bool, true, false, _&&_}
@@ -126,9 +126,12 @@ module _ (t : Table) (good : IsTable t) where
             (λ z. let f : getD ts (cell (t .letters) q a) noRow ≡ noRow = rw z at e in absurd (omega (arith, good .few-states)))
             (λ z. sym (rw z at e))
 
-    pub laid-homes : (old hs : List ℕ) → t .states ≤ length hs → hs ≡ over (tabulate (t .states) 0 (componentOf s)) old → Listed (t .states) (componentOf (systemOf t)) hs
-    laid-homes old hs l e =
-        record { enough = l; entry = λ q b. rw e (over-at (componentOf s) (t .states) old q b) ∙ same-component s (systemOf t) go-laid laid-go q b }
+    pub laid-homes-at : (q : ℕ) → q < t .states → componentOf s q ≡ componentOf (systemOf t) q
+    laid-homes-at q l = same-component s (systemOf t) go-laid laid-go q l
+
+    pub laid-homes : (old hs : List ℕ) → t .states ≤ length hs → hs ≡ over (tabulate (t .states) 0 (componentOf s)) old
+        → Listed (t .states) (componentOf (systemOf t)) hs
+    laid-homes old hs l e = record { enough = l; entry = λ q b. rw e (over-at (componentOf s) (t .states) old q b) ∙ laid-homes-at q b }
 
     module _ (ms : List ℕ) (marks : MarksLaid t ms) where
       -- both bytes of a cell's marks are small
