@@ -2,7 +2,7 @@
 // transition is `INSIDE`, 65,536 times the target state, and the marks.
 ghost use mathlib.Core.Path.{_≡_};
 ghost use Prim.Native.Nat.{_<_};
-ghost use Rattle.explore.specs.Cells.{span, keyOf, targetIn, marksIn, stateIn, strays};
+ghost use Rattle.explore.specs.Cells.{span, keyOf, marksIn, stateIn, strays};
 
 // One more than the largest memory.
 pub const SPAN: u32 = 262144;
@@ -19,12 +19,12 @@ pub(crate) fn marks_of(code: u32) -> u32
     code % 65536
 }
 
-// The key to which an inside transition leads, where `memory` is what the memory is then.
-pub(crate) fn moved_key(code: u32, memory: u32) -> u32
-    requires { ⌜ memory < span ⌝ }
-    ensures { λ r. ⌜ r ≡ keyOf (targetIn code) memory ⌝ }
+// The key of a state with a memory.
+pub(crate) fn key_of(state: u32, memory: u32) -> u32
+    requires { ⌜ (state < 1024) × (memory < span) ⌝ }
+    ensures { λ r. ⌜ r ≡ keyOf state memory ⌝ }
 {
-    code / 65536 % 1024 * SPAN + memory
+    state * SPAN + memory
 }
 
 // The state to which a code leads.

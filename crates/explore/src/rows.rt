@@ -4,7 +4,7 @@ use crate::Task;
 use crate::codes::CROSSING;
 use crate::codes::INSIDE;
 use crate::codes::SPAN;
-use crate::codes::moved_key;
+use crate::codes::key_of;
 use crate::effects::write_effects;
 use crate::filing::rows_after;
 use crate::filing::settle;
@@ -55,9 +55,9 @@ fn next_key(code: u32, effect: u32) -> u32
     ensures { λ r. ⌜ r ≡ stepIn code effect .to ⌝ }
 {
     if code < INSIDE {
-        return code % CROSSING;
+        return key_of(code % CROSSING / SPAN, code % SPAN);
     }
-    moved_key(code, effect % SPAN)
+    key_of(code / 65536 % 1024, effect % SPAN)
 }
 
 // The priority of the transition of a code that is there.

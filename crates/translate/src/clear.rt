@@ -1,21 +1,47 @@
-// Clears the rows that are not kept.
+// Clears the rows that are not kept. Each `clear_` function clears the places from `from` up to `to`, one function for each width and one array
+// in a loop: two in one loop take three times as long.
 ghost use Prim.Native.Nat.{_*_, _≤_};
 ghost use lib.ListN.{length};
 ghost use Rattle.rules.specs.Limits.{maxLetters, maxRows};
 ghost use Rattle.rules.specs.Arrays.{Cleared};
 ghost use Rattle.translate.specs.Arrays.{RowsCleared};
 
-// Clears cells from number `from` up to `to`.
-fn clear_cells(from: usize, to: usize, targets: &mut [u16], priorities: &mut [u8])
-    requires { ⌜ (from ≤ to) × (to ≤ length (now targets)) × (to ≤ length (now priorities)) ⌝ }
-    ensures { λ _. ⌜ Cleared from to (now (targets .entry)) (now (targets .exit)) × Cleared from to (now (priorities .entry)) (now (priorities .exit)) ⌝ }
+// Clears a part of an array of bytes.
+fn clear_u8(array: &mut [u8], from: usize, to: usize)
+    requires { ⌜ (from ≤ to) × (to ≤ length (now array)) ⌝ }
+    ensures { λ _. ⌜ Cleared from to (now (array .entry)) (now (array .exit)) ⌝ }
 {
-    let mut p = from;
-    // the cells from `from` up to p are cleared
-    while p < to {
-        targets[p] = 0;
-        priorities[p] = 0;
-        p += 1;
+    let mut i = from;
+    // the places from `from` up to i are cleared
+    while i < to {
+        array[i] = 0;
+        i += 1;
+    }
+}
+
+// Clears a part of an array of 16-bit numbers.
+fn clear_u16(array: &mut [u16], from: usize, to: usize)
+    requires { ⌜ (from ≤ to) × (to ≤ length (now array)) ⌝ }
+    ensures { λ _. ⌜ Cleared from to (now (array .entry)) (now (array .exit)) ⌝ }
+{
+    let mut i = from;
+    // the places from `from` up to i are cleared
+    while i < to {
+        array[i] = 0;
+        i += 1;
+    }
+}
+
+// Clears a part of an array of 32-bit numbers.
+fn clear_u32(array: &mut [u32], from: usize, to: usize)
+    requires { ⌜ (from ≤ to) × (to ≤ length (now array)) ⌝ }
+    ensures { λ _. ⌜ Cleared from to (now (array .entry)) (now (array .exit)) ⌝ }
+{
+    let mut i = from;
+    // the places from `from` up to i are cleared
+    while i < to {
+        array[i] = 0;
+        i += 1;
     }
 }
 
@@ -32,12 +58,8 @@ pub(crate) fn clear_rows(
     requires { ⌜ (m ≤ maxLetters) × (from ≤ capacity) × (capacity ≤ maxRows) × (capacity * m ≤ length (now targets)) × (capacity * m ≤ length (now priorities)) × (capacity ≤ length (now sources)) × (capacity ≤ length (now records)) ⌝ }
     ensures { λ _. ⌜ RowsCleared m from capacity (now (targets .entry)) (now (targets .exit)) (now (priorities .entry)) (now (priorities .exit)) (now (sources .entry)) (now (sources .exit)) (now (records .entry)) (now (records .exit)) ⌝ }
 {
-    clear_cells(from * m, capacity * m, targets, priorities);
-    let mut i = from;
-    // the states and record numbers of the rows from `from` up to i are cleared
-    while i < capacity {
-        sources[i] = 0;
-        records[i] = 0;
-        i += 1;
-    }
+    clear_u16(targets, from * m, capacity * m);
+    clear_u8(priorities, from * m, capacity * m);
+    clear_u8(sources, from, capacity);
+    clear_u32(records, from, capacity);
 }

@@ -102,8 +102,6 @@ pub fn translate_table(
         sources,
         records,
     );
-    Translation {
-        number: refusal_of(explored),
-        rows,
-    }
+    let number = refusal_of(explored);
+    Translation { number, rows }
 }

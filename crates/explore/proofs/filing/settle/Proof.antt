@@ -2,6 +2,7 @@
 use borrow.Author.Needs.{needs}
 use mathlib.Core.Path.{_≡_}
 use Prim.Native.Nat.{ℕ, _<_}
+use native.Mathlib.Omega.{arith}
 use lib.ListN.{getD}
 use Rattle.explore.proofs.Settling.{settled-found, settled-full, settled-added}
 use Rattle.explore.proofs.filing.settle.Statement.{statement}
@@ -12,7 +13,7 @@ absent : (c : tie.After-enum-told) → let s = c .before .before .before .before
 absent c = rw (c .enum-told .given .1) at (c .before .before .find-key .ensures)
 
 returns : tie.Need-returns
-returns c = settled-full _ _ _ _ _ _ (c .before .before .before .before .before .before .before .before .before .before .pre) (c .if1 .taken) (absent (c .before))
+returns c = settled-full _ _ _ _ _ _ (c .before .before .before .before .before .before .before .before .before .before .pre) (omega (arith, c .if1 .taken)) (absent (c .before))
 
 returns-2 : tie.Need-returns-2
 returns-2 c = settled-added _ _ _ _ _ _ (c .before .before .before .before .before .before .before .before .before .before .before .before .before .before .before .before .before .pre) _ _ (c .before .before .before .before .index-key .ensures) (c .before .before .before .before .before .before .before .if1 .left) (absent (c .before .before .before .before .before .before .before .before))

@@ -1,6 +1,6 @@
 -- `listing_text::text::put_numeral` meets its contract. It calls itself with the digits before the last; the measure is the number.
 use mathlib.Core.Path.{_∙_}
-use Prim.Native.Nat.{ℕ}
+use Prim.Native.Nat.{ℕ, _<_}
 use native.Mathlib.Omega.{arith}
 use borrow.Fn.Kinds.{In}
 use borrow.Fn.PlainCycle.{Measures, is, falls, and}
