@@ -20,6 +20,7 @@
 #define DUCKBULLION_H
 
 #include <stddef.h>
+#include <stdbool.h>
 #include <stdint.h>
 
 #ifdef __cplusplus
@@ -115,16 +116,43 @@ uint8_t duckbullion_find_components(const uint8_t *table, size_t table_length,
                                     uint8_t *out, size_t out_length);
 
 /*
- * What the translator asks of each state. A transition is inside if both its ends share a component; a pair counts in a
- * component if some inside transition of it has the pair's required bit.
- * Result: the table's refusal; then 7 where either array has fewer than n places; else 0.
- * On 0 the first n entries of inside are, state by state, the letters with an inside transition (bit a for letter a),
- * those of counted the pairs that count in the state's component (bit i - 1 for pair i), and the entries behind are
- * untouched. On a refusal both arrays hold what they held.
+ * Systems in an array, for tests and benchmarks. A system has n states and m letters, both below 65,535; cell q*m + a of
+ * targets says where state q goes by letter a, and a target that is no state means that there is no transition.
+ * Result: true where n and m are in range, targets has n*m entries and each other array n; else false, and nothing is
+ * written. On true the first n entries of out are, state by state, the smallest state of the state's component, and the
+ * entries behind are untouched. The five arrays in between are to work in: what they hold afterwards is not said.
  */
-uint8_t duckbullion_survey_table(const uint8_t *table, size_t table_length,
-                                 uint16_t *inside, size_t inside_length,
-                                 uint8_t *counted, size_t counted_length);
+bool duckbullion_find_components_of_system(size_t states, size_t letters,
+                                           const uint16_t *targets, size_t targets_length,
+                                           uint16_t *numbers, size_t numbers_length,
+                                           uint16_t *stack, size_t stack_length,
+                                           uint16_t *starts, size_t starts_length,
+                                           uint16_t *waiting, size_t waiting_length,
+                                           uint16_t *next, size_t next_length,
+                                           uint16_t *out, size_t out_length);
+
+/*
+ * All that a state reaches, by a breadth-first search. Result: how many states are reached, from itself included; 0 where
+ * m is above 256, from is no state, or sizes or arrays do not fit as above, and then nothing is written.
+ * Afterwards numbers has for each state its place in the queue plus 1, or 0 where it is not reached; queue has for each
+ * place the state, parents the place that it was met from, an earlier one, and by the letter. Place 0 is from.
+ */
+size_t duckbullion_find_reached(size_t states, size_t letters,
+                                const uint16_t *targets, size_t targets_length,
+                                size_t from,
+                                uint16_t *numbers, size_t numbers_length,
+                                uint16_t *queue, size_t queue_length,
+                                uint16_t *parents, size_t parents_length,
+                                uint8_t *by, size_t by_length);
+
+/*
+ * A path to the state at a place, from what such a search has left in parents and by. Result: where its letters begin in
+ * out; they go to the end of out, and the entries before are untouched. out has at least as many entries as place.
+ */
+size_t duckbullion_path_to(size_t place,
+                           const uint16_t *parents, size_t parents_length,
+                           const uint8_t *by, size_t by_length,
+                           uint8_t *out, size_t out_length);
 
 /*
  * Translates a Rabin table into a parity table, by index appearance records. A row is a source state with a record, an

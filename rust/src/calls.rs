@@ -69,14 +69,48 @@ extern "C" {
         out: *mut u8,
         out_len: usize,
     ) -> u8;
-    fn duckbullion_survey_table(
-        table: *const u8,
-        table_len: usize,
-        inside: *mut u16,
-        inside_len: usize,
-        counted: *mut u8,
-        counted_len: usize,
-    ) -> u8;
+    fn duckbullion_find_components_of_system(
+        states: usize,
+        letters: usize,
+        targets: *const u16,
+        targets_len: usize,
+        numbers: *mut u16,
+        numbers_len: usize,
+        stack: *mut u16,
+        stack_len: usize,
+        starts: *mut u16,
+        starts_len: usize,
+        waiting: *mut u16,
+        waiting_len: usize,
+        next: *mut u16,
+        next_len: usize,
+        out: *mut u16,
+        out_len: usize,
+    ) -> bool;
+    fn duckbullion_find_reached(
+        states: usize,
+        letters: usize,
+        targets: *const u16,
+        targets_len: usize,
+        from: usize,
+        numbers: *mut u16,
+        numbers_len: usize,
+        queue: *mut u16,
+        queue_len: usize,
+        parents: *mut u16,
+        parents_len: usize,
+        by: *mut u8,
+        by_len: usize,
+    ) -> usize;
+    fn duckbullion_path_to(
+        place: usize,
+        parents: *const u16,
+        parents_len: usize,
+        by: *const u8,
+        by_len: usize,
+        out: *mut u8,
+        out_len: usize,
+    ) -> usize;
     fn duckbullion_translate_table(
         table: *const u8,
         table_len: usize,
@@ -153,13 +187,128 @@ pub fn find_components(table: &[u8], out: &mut [u8]) -> u8 {
     unsafe { duckbullion_find_components(table.as_ptr(), table.len(), out_at, out_len) }
 }
 
-/// Gives each state its inside letters (bit a for letter a) and its counted pairs (bit i − 1).
-pub fn survey_table(table: &[u8], inside: &mut [u16], counted: &mut [u8]) -> u8 {
-    let (table_at, table_len) = (table.as_ptr(), table.len());
-    let (in_at, in_len) = (inside.as_mut_ptr(), inside.len());
-    let (pairs_at, pairs_len) = (counted.as_mut_ptr(), counted.len());
+/// The five arrays that a search for components works in.
+#[derive(Clone, Debug)]
+pub struct Work {
+    arrays: [Vec<u16>; 5],
+}
+
+impl Work {
+    /// Arrays for so many states, filled with one number.
+    pub fn new(states: usize, number: u16) -> Work {
+        Work {
+            arrays: std::array::from_fn(|_| vec![number; states]),
+        }
+    }
+}
+
+/// Gives each state of a system in an array the smallest state of its component; false if sizes or arrays do not fit.
+pub fn find_components_of_system(
+    states: usize,
+    letters: usize,
+    targets: &[u16],
+    work: &mut Work,
+    out: &mut [u16],
+) -> bool {
+    let [numbers, stack, starts, waiting, next] = &mut work.arrays;
     // SAFETY: each pointer has its own slice's length, and the written slices are lent alone.
-    unsafe { duckbullion_survey_table(table_at, table_len, in_at, in_len, pairs_at, pairs_len) }
+    unsafe {
+        duckbullion_find_components_of_system(
+            states,
+            letters,
+            targets.as_ptr(),
+            targets.len(),
+            numbers.as_mut_ptr(),
+            numbers.len(),
+            stack.as_mut_ptr(),
+            stack.len(),
+            starts.as_mut_ptr(),
+            starts.len(),
+            waiting.as_mut_ptr(),
+            waiting.len(),
+            next.as_mut_ptr(),
+            next.len(),
+            out.as_mut_ptr(),
+            out.len(),
+        )
+    }
+}
+
+/// What a search from one state leaves: numbers, queue, parents and letters.
+#[derive(Clone, Debug, PartialEq, Eq)]
+pub struct Reached {
+    /// For each state its place in the queue plus 1, 0 if it is not reached.
+    pub numbers: Vec<u16>,
+    /// For each place the state.
+    pub queue: Vec<u16>,
+    /// For each place the place that its state was met from.
+    pub parents: Vec<u16>,
+    /// For each place the letter that led there.
+    pub by: Vec<u8>,
+}
+
+impl Reached {
+    /// Arrays with so many entries, filled with one number.
+    pub fn new(entries: usize, number: u8) -> Reached {
+        Reached {
+            numbers: vec![number.into(); entries],
+            queue: vec![number.into(); entries],
+            parents: vec![number.into(); entries],
+            by: vec![number; entries],
+        }
+    }
+}
+
+/// Finds all that a state reaches: how many states, 0 if sizes or arrays do not fit.
+pub fn find_reached(
+    states: usize,
+    letters: usize,
+    targets: &[u16],
+    from: usize,
+    reached: &mut Reached,
+) -> usize {
+    let Reached {
+        numbers,
+        queue,
+        parents,
+        by,
+    } = reached;
+    // SAFETY: each pointer has its own slice's length, and the written slices are lent alone.
+    unsafe {
+        duckbullion_find_reached(
+            states,
+            letters,
+            targets.as_ptr(),
+            targets.len(),
+            from,
+            numbers.as_mut_ptr(),
+            numbers.len(),
+            queue.as_mut_ptr(),
+            queue.len(),
+            parents.as_mut_ptr(),
+            parents.len(),
+            by.as_mut_ptr(),
+            by.len(),
+        )
+    }
+}
+
+/// Writes a path to the state at a place at the end of `out` and gives where it begins.
+pub fn path_to(place: usize, reached: &Reached, out: &mut [u8]) -> usize {
+    let (parents, by) = (&reached.parents, &reached.by);
+    let (out_at, out_len) = (out.as_mut_ptr(), out.len());
+    // SAFETY: each pointer has its own slice's length, and the written slice is lent alone.
+    unsafe {
+        duckbullion_path_to(
+            place,
+            parents.as_ptr(),
+            parents.len(),
+            by.as_ptr(),
+            by.len(),
+            out_at,
+            out_len,
+        )
+    }
 }
 
 /// Translates a Rabin table into the four lent arrays.

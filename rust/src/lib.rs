@@ -5,10 +5,12 @@
 //! - `plain`: an independent implementation, written from document 01 alone;
 //! - `tuned`: the tuned conventional implementation;
 //! - `specialised`: versions of the tuned one that go beyond the conventional;
-//! - `random`: a seeded generator of tables, words, arrays and damage.
+//! - `random`: a seeded generator of tables, words, arrays and damage;
+//! - `systems`: transition systems of several shapes, with their components and reach.
 
 pub mod calls;
 pub mod plain;
 pub mod random;
 pub mod specialised;
+pub mod systems;
 pub mod tuned;

@@ -271,31 +271,6 @@ pub fn components(table: &[u8], out: &mut [u8]) -> u8 {
     0
 }
 
-/// Gives each state its inside letters (bit a for letter a) and its counted pairs (bit i − 1).
-pub fn survey(table: &[u8], inside: &mut [u16], counted: &mut [u8]) -> u8 {
-    let rabin = match read(table) {
-        Ok(rabin) => rabin,
-        Err(number) => return number,
-    };
-    if inside.len() < rabin.states || counted.len() < rabin.states {
-        return 7;
-    }
-    let components = components_of(&rabin);
-    for (state, pairs) in counted_of(&rabin, &components).into_iter().enumerate() {
-        inside[state] = 0;
-        for (letter, cell) in rabin.cells[state].iter().enumerate() {
-            match cell {
-                Some(transition) if components[transition.target] == components[state] => {
-                    inside[state] += 1 << letter;
-                }
-                _ => {}
-            }
-        }
-        counted[state] = pairs.into_iter().map(|pair| 1 << (pair - 1)).sum();
-    }
-    0
-}
-
 /// The record after a transition inside a component: prohibited pairs move to the front.
 pub fn moved(record: &[u8], prohibited: u8) -> Vec<u8> {
     let (mut front, back): (Vec<u8>, Vec<u8>) =

@@ -303,12 +303,6 @@ pub fn lent_bytes(random: &mut Random, states: usize) -> Vec<u8> {
     filled(random, length, |bits| bits as u8)
 }
 
-/// An array of junk 16-bit numbers for so many states, now and then too short.
-pub fn lent_numbers(random: &mut Random, states: usize) -> Vec<u16> {
-    let length = length(random, states);
-    filled(random, length, |bits| bits as u16)
-}
-
 /// A looped word.
 #[derive(Clone, Debug, PartialEq, Eq)]
 pub struct Word {

@@ -741,3 +741,108 @@ fn repeat_parity(
         Judged::Rejects
     }
 }
+
+/// The arrays of Tarjan's walk, made once.
+pub struct Tarjan {
+    low: Vec<u16>,
+    stack: Vec<u16>,
+    path: Vec<u16>,
+    next: Vec<u16>,
+}
+
+impl Tarjan {
+    /// Arrays for so many states.
+    pub fn new(states: usize) -> Tarjan {
+        Tarjan {
+            low: vec![0; states],
+            stack: vec![0; states],
+            path: vec![0; states],
+            next: vec![0; states],
+        }
+    }
+
+    /// Gives each state of a system in an array the smallest state of its component: Tarjan's walk in the form of Pearce, where one
+    /// number for each state is its order while it is open and the largest one afterwards. No allocation.
+    pub fn components(&mut self, states: usize, letters: usize, targets: &[u16], out: &mut [u16]) {
+        const DONE: u16 = u16::MAX;
+        let low = &mut self.low[..states];
+        let stack = &mut self.stack[..states];
+        let path = &mut self.path[..states];
+        let next = &mut self.next[..states];
+        let out = &mut out[..states];
+        let targets = &targets[..states * letters];
+        low.fill(0);
+        for root in 0..states {
+            if low[root] != 0 {
+                continue;
+            }
+            let (mut open, mut depth, mut time) = (0, 1, 1u16);
+            path[0] = root as u16;
+            low[root] = 1;
+            next[root] = 0;
+            let mut is_root = true;
+            'walk: loop {
+                let q = usize::from(path[depth - 1]);
+                let row = &targets[q * letters..][..letters];
+                let mut a = usize::from(next[q]);
+                let mut best = low[q];
+                if a > 0 {
+                    // the bit above the letter says that an earlier target was lower
+                    is_root = a & 0x8000 == 0;
+                    a &= 0x7FFF;
+                    let back = low[usize::from(row[a - 1])];
+                    if back < best {
+                        best = back;
+                        is_root = false;
+                    }
+                }
+                while a < letters {
+                    let target = usize::from(row[a]);
+                    a += 1;
+                    if target >= states {
+                        continue;
+                    }
+                    let known = low[target];
+                    if known == 0 {
+                        low[q] = best;
+                        next[q] = a as u16 | if is_root { 0 } else { 0x8000 };
+                        time += 1;
+                        low[target] = time;
+                        next[target] = 0;
+                        path[depth] = target as u16;
+                        depth += 1;
+                        is_root = true;
+                        continue 'walk;
+                    }
+                    if known < best {
+                        best = known;
+                        is_root = false;
+                    }
+                }
+                low[q] = best;
+                depth -= 1;
+                if is_root {
+                    let mut smallest = q as u16;
+                    let mut first = open;
+                    while first > 0 && low[usize::from(stack[first - 1])] >= best {
+                        first -= 1;
+                        smallest = smallest.min(stack[first]);
+                    }
+                    for &p in &stack[first..open] {
+                        low[usize::from(p)] = DONE;
+                        out[usize::from(p)] = smallest;
+                    }
+                    open = first;
+                    low[q] = DONE;
+                    out[q] = smallest;
+                } else {
+                    stack[open] = q as u16;
+                    open += 1;
+                }
+                if depth == 0 {
+                    break;
+                }
+            }
+        }
+    }
+}

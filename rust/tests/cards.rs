@@ -167,9 +167,7 @@ fn demand_refused(table: &[u8], number: u8) {
     assert_eq!(calls::check_table(table), number);
     let mut bytes = [9; 70];
     assert_eq!(calls::find_components(table, &mut bytes), number);
-    let mut numbers = [9; 70];
-    assert_eq!(calls::survey_table(table, &mut numbers, &mut bytes), number);
-    assert!(bytes.iter().all(|&byte| byte == 9) && numbers.iter().all(|&entry| entry == 9));
+    assert!(bytes.iter().all(|&byte| byte == 9));
     let mut lent = nines(4, 2);
     assert_eq!(
         translate(table, 4, &mut lent),
@@ -282,9 +280,6 @@ fn marks_of_a_crossing_are_ignored() {
     assert_eq!(parity.priorities, [1, 1]);
     assert_eq!(parity.records, [0, 0]);
     assert_eq!(parity.targets, [1, 1]);
-    let (mut inside, mut counted) = ([9; 3], [9; 3]);
-    assert_eq!(calls::survey_table(&table, &mut inside, &mut counted), 0);
-    assert_eq!((inside, counted), ([0, 1, 9], [0, 0, 9]));
     let mut components = [9; 3];
     assert_eq!(calls::find_components(&table, &mut components), 0);
     assert_eq!(components, [0, 1, 9]);

@@ -7,6 +7,7 @@
 use duckbullion::calls::{self, Judged, ParityTable, Translation};
 use duckbullion::plain::{self, Lent};
 use duckbullion::random::{self, Random, Word};
+use duckbullion::systems;
 use std::collections::BTreeMap;
 use std::fmt::Debug;
 use std::io::Write;
@@ -163,8 +164,8 @@ fn called_translate(table: &[u8], capacity: usize, lent: &mut Lent) -> Translati
     calls::translate_table(table, capacity, targets, priorities, sources, records)
 }
 
-/// Compares the check, the letters, the components and the survey of one table.
-fn compare_surveys(case: &Case, random: &mut Random, tally: &mut Tally) {
+/// Compares the check, the letters and the components of one table.
+fn compare_checks(case: &Case, random: &mut Random, tally: &mut Tally) {
     let table = case.table;
     let number = plain::check(table);
     case.same("check", calls::check_table(table), number);
@@ -186,19 +187,6 @@ fn compare_surveys(case: &Case, random: &mut Random, tally: &mut Tally) {
     );
     case.same("components array", called_out, plain_out);
     tally.number("find_components", number);
-
-    let mut plain_inside = random::lent_numbers(random, states);
-    let mut plain_counted = random::lent_bytes(random, states);
-    let (mut inside, mut counted) = (plain_inside.clone(), plain_counted.clone());
-    let number = plain::survey(table, &mut plain_inside, &mut plain_counted);
-    case.same(
-        "survey",
-        calls::survey_table(table, &mut inside, &mut counted),
-        number,
-    );
-    case.same("survey inside", inside, plain_inside);
-    case.same("survey counted", counted, plain_counted);
-    tally.number("survey_table", number);
 }
 
 /// The rows that a table's exploration reaches, if it has a check passed and at most 4,096.
@@ -323,7 +311,7 @@ fn tables_and_words() {
             table: &table,
             word: None,
         };
-        compare_surveys(&case, random, &mut tally);
+        compare_checks(&case, random, &mut tally);
         let translated = compare_translation(&case, random, &mut tally);
         for _ in 0..2 {
             let word = word_for(random, &table);
@@ -339,7 +327,6 @@ fn tables_and_words() {
     tally.print("Rabin tables, and two words each");
     tally.demand("check_table", 0..=6);
     tally.demand("find_components", 0..=7);
-    tally.demand("survey_table", 0..=7);
     tally.demand("translate_table", 0..=8);
     tally.demand("judge_rabin", (1..=6).chain(9..=10).chain(12..=14));
     tally.demand("judge_parity, translated", (9..=10).chain(12..=14));
@@ -523,5 +510,81 @@ mod listing {
         });
         tally.print("Listings");
         tally.demand("list_table", 0..=8);
+    }
+}
+
+/// Compares the components and the reach of one system, in arrays with junk behind.
+fn compare_system(shape: systems::Shape, random: &mut Random, states: usize, letters: usize) {
+    let mut targets = systems::targets(random, shape, states, letters);
+    let found = systems::components(states, letters, &targets);
+    let behind = random.below(9);
+    targets.extend((0..behind).map(|_| random.below(states) as u16));
+    let mut work = calls::Work::new(states + behind, 7);
+    let mut out = vec![9; states + behind];
+    let what = format!("{shape:?}, {states} states, {letters} letters");
+    assert!(
+        calls::find_components_of_system(states, letters, &targets, &mut work, &mut out),
+        "{what}"
+    );
+    assert_eq!(out[..states], found, "components: {what}");
+    assert!(out[states..].iter().all(|&entry| entry == 9), "{what}");
+
+    let from = random.below(states);
+    let mut reached = calls::Reached::new(states + behind, 5);
+    let count = calls::find_reached(states, letters, &targets, from, &mut reached);
+    let expected = systems::reached(states, letters, &targets, from);
+    assert_eq!(
+        count,
+        expected.iter().filter(|&&is| is).count(),
+        "reach: {what}"
+    );
+    for (state, &is) in expected.iter().enumerate() {
+        let number = usize::from(reached.numbers[state]);
+        assert_eq!(number != 0, is, "reach of {state}: {what}");
+        if is {
+            assert_eq!(usize::from(reached.queue[number - 1]), state, "{what}");
+        }
+    }
+    let place = random.below(count);
+    let mut out = vec![255; place + behind];
+    let begin = calls::path_to(place, &reached, &mut out);
+    assert!(out[..begin].iter().all(|&entry| entry == 255), "{what}");
+    let led = out[begin..].iter().fold(from, |state, &letter| {
+        usize::from(targets[state * letters + usize::from(letter)])
+    });
+    assert_eq!(led, usize::from(reached.queue[place]), "path: {what}");
+}
+
+#[test]
+fn systems_of_every_shape() {
+    let mut random = Random::new(seed());
+    for shape in systems::SHAPES {
+        for states in [1, 2, 3, 64, 250, 1000] {
+            for letters in [1, 2, 3, 16] {
+                compare_system(shape, &mut random, states, letters);
+            }
+        }
+    }
+    each_case(cases() / 10, |_| {
+        let shape = systems::SHAPES[random.below(systems::SHAPES.len())];
+        let (states, letters) = (1 + random.below(40), 1 + random.below(4));
+        compare_system(shape, &mut random, states, letters);
+    });
+    // what does not fit is answered as such, and nothing is written
+    let targets = [0; 6];
+    for (states, letters, room) in [(4, 2, 4), (3, 2, 2), (65535, 0, 70000), (1, 65535, 9)] {
+        let mut work = calls::Work::new(room, 7);
+        let mut out = vec![9; room];
+        assert!(!calls::find_components_of_system(
+            states, letters, &targets, &mut work, &mut out
+        ));
+        assert!(out.iter().all(|&entry| entry == 9));
+        let mut reached = calls::Reached::new(room, 5);
+        let before = reached.clone();
+        assert_eq!(
+            calls::find_reached(states, letters, &targets, 0, &mut reached),
+            0
+        );
+        assert_eq!(reached, before);
     }
 }

@@ -1,6 +1,8 @@
 // The public calls on tables and words for C and Rust: a slice goes out as a pointer and a length, an answer as two numbers.
-// It rests on `tables`, `translate`, `judge` and `listing_text`, passes each call on as it is, and has no work of its own but to number an answer and
+// It rests on `components`, `tables`, `translate`, `judge` and `listing_text`, passes each call on as it is, and has no work of its own but to number an answer and
 // to say where a part lies. Each call keeps the promise of the one that it passes on to, for all bytes, arrays, sizes and places.
+use components::find_reached;
+use components::path_to;
 use judge::Judged;
 use judge::judge_parity;
 use judge::judge_rabin;
@@ -9,14 +11,13 @@ use listing_text::list_table;
 use tables::check_table;
 use tables::find_components;
 use tables::letters_of;
-use tables::survey_table;
 use translate::Translation;
 use translate::translate_table;
 ghost use mathlib.Core.Path.{_≡_};
 ghost use Rattle.rules.specs.Says.{CheckSays, ComponentsSay, TranslateSays, TranslationAgrees, RabinSays, ParitySays};
 ghost use Rattle.rules.specs.Listings.{ListingSays};
 ghost use Rattle.rules.specs.Tables.{tableOf};
-ghost use Rattle.tables.specs.Surveys.{SurveySays};
+ghost use Rattle.components.specs.Calls.{ComponentsFound, ReachFound, PathFound};
 ghost use Rattle.judge.specs.Judgements.{answerOf};
 ghost use Rattle.exported.specs.Results.{answered, RestLies};
 
@@ -59,16 +60,62 @@ pub extern "C" fn duckbullion_find_components(table: &[u8], out: &mut [u8]) -> u
     find_components(table, out)
 }
 
-// For each state, in the first n entries of both arrays: by which letters it stays in its component, and which pairs count there.
+// The smallest state of each state's component of a system in an array, in the first entries of `out`, with five arrays to work in.
 #[no_mangle]
-pub extern "C" fn duckbullion_survey_table(
-    table: &[u8],
-    inside: &mut [u16],
-    counted: &mut [u8],
-) -> u8
-    ensures { λ r. ⌜ SurveySays (now (table .entry)) (now (inside .entry)) (now (inside .exit)) (now (counted .entry)) (now (counted .exit)) r ⌝ }
+pub extern "C" fn duckbullion_find_components_of_system(
+    states: usize,
+    letters: usize,
+    targets: &[u16],
+    numbers: &mut [u16],
+    stack: &mut [u16],
+    starts: &mut [u16],
+    waiting: &mut [u16],
+    next: &mut [u16],
+    out: &mut [u16],
+) -> bool
+    ensures { λ r. ⌜ ComponentsFound states letters (now (targets .entry)) (now (numbers .entry)) (now (stack .entry)) (now (starts .entry)) (now (waiting .entry)) (now (next .entry)) (now (out .entry)) (now (out .exit)) r ⌝ }
 {
-    survey_table(table, inside, counted)
+    components::find_components(
+        states,
+        letters,
+        targets,
+        numbers,
+        stack,
+        starts,
+        waiting,
+        next,
+        out,
+    )
+}
+
+// All that a state of a system in an array reaches, with the place that each state was met from and the letter.
+#[no_mangle]
+pub extern "C" fn duckbullion_find_reached(
+    states: usize,
+    letters: usize,
+    targets: &[u16],
+    from: usize,
+    numbers: &mut [u16],
+    queue: &mut [u16],
+    parents: &mut [u16],
+    by: &mut [u8],
+) -> usize
+    ensures { λ r. ⌜ ReachFound states letters from (now (targets .entry)) (now (numbers .entry)) (now (numbers .exit)) (now (queue .entry)) (now (queue .exit)) (now (parents .entry)) (now (parents .exit)) (now (by .entry)) (now (by .exit)) r ⌝ }
+{
+    find_reached(states, letters, targets, from, numbers, queue, parents, by)
+}
+
+// The letters of a path to the state at a place, at the end of `out`, and where they begin.
+#[no_mangle]
+pub extern "C" fn duckbullion_path_to(
+    place: usize,
+    parents: &[u16],
+    by: &[u8],
+    out: &mut [u8],
+) -> usize
+    ensures { λ r. ⌜ PathFound place (now (parents .entry)) (now (by .entry)) (now (out .entry)) (now (out .exit)) r ⌝ }
+{
+    path_to(place, parents, by, out)
 }
 
 // The parity table of a Rabin table, in the lent arrays.

@@ -4,6 +4,7 @@
 --     prohibitedAt, prohibited-within, prohibited-byte     the place of the byte of that transition's prohibited marks, and that byte
 --     requiredAt, required-within, required-byte     the same of its required marks
 --     prohibits-byte, counts-byte   what the bits of the two bytes say: which pairs the transition prohibits and makes count
+--     target-count, mark-count      one target and two marks for each cell
 --     marks-small                   no marks have a bit above pair k, whatever the cell
 --     prohibits-below, counts-below      nor have the two bytes
 use mathlib.Core.Path.{_≡_, _∙_}
@@ -70,6 +71,12 @@ module _ (bs : List ℕ) where
   mark-byte : (c at : ℕ) → c < 2 * cells → headerSize + cells + c ≡ at → getD (t .marks) c 0 ≡ getD bs at 0
   mark-byte c at l e =
       getD-take (2 * cells) (drop (headerSize + cells) bs) c 0 l ∙ getD-drop (headerSize + cells) bs c 0 ∙ rw e
+
+  pub target-count : Taken bs → length (t .targets) ≡ cells
+  target-count taken = simp (length-take, length-drop) (omega (arith, taken-table bs taken .exact))
+
+  pub mark-count : Taken bs → length (t .marks) ≡ 2 * cells
+  mark-count taken = simp (length-take, length-drop) (omega (arith, taken-table bs taken .exact))
 
   pub marks-small : Taken bs → (c : ℕ) → (getD (t .marks) (2 * c) 0 < 2 ^ t .pairs) × (getD (t .marks) (suc (2 * c)) 0 < 2 ^ t .pairs)
   marks-small taken c =

@@ -2,6 +2,6 @@
 pub mod Checks
 pub mod Refused
 pub mod Cells
-pub mod Closure
+pub mod Laying
 pub mod Promises
 pub mod Surveying

@@ -1,27 +1,38 @@
 -- From what a call found to what it promises.
---     components-refused, survey-refused     the table's own refusal
---     components-short, survey-short         an array too short
---     components-found, surveyed             done
+--     components-refused, lay-refused        the table's own refusal
+--     components-short, lay-short            an array too short
+--     components-found, laid                 done
+--     survey-room                            what holds where a survey fits
 use mathlib.Core.Path.{_≡_, refl}
-use mathlib.Core.Bool.{true, false, _||_}
+use mathlib.Core.Bool.{Bool, true, false, _&&_, _||_}
 use mathlib.Core.List.{List}
-use Prim.Native.Nat.{ℕ, zero, suc, _<_, _≤_}
-use lib.Dec.{eqb·suc-zero, ltb}
+use Prim.Native.Nat.{ℕ, zero, suc, _*_, _<_, _≤_}
+use native.Mathlib.Omega.{arith}
+use lib.Dec.{eqb·suc-zero, leb, ltb}
 use lib.ListN.{length}
-use borrow.Author.Tests.{lt-ltb, le-ltb}
+use borrow.Author.Tests.{lt-ltb, le-ltb, leb-true}
+use Rattle.rules.specs.Limits.{maxStates, maxLetters}
 use Rattle.rules.specs.Refusals as Refusal
 use Rattle.rules.specs.Tables.{tableOf, tableFault}
 use Rattle.rules.specs.Says.{over, components, ComponentsSay}
+use Rattle.rules.proofs.Bools.{and-parts}
 use Rattle.tables.specs.Parts.{Taken}
-use Rattle.tables.specs.Surveys.{insideSets, countedSets, SurveySays}
+use Rattle.tables.specs.Layouts.{targetCells, markCells, layFault, LaySays, surveyFits}
 
 pub components-refused : (bs o : List ℕ) (r : ℕ) → r ≡ tableFault bs → (r ≡ 0 → ⊥) → ComponentsSay bs o o r
 components-refused bs o zero e d = absurd (d refl)
 components-refused bs o (suc r) e d = record { number = rw (← e); array = rw (← e, eqb·suc-zero r) }
 
-pub survey-refused : (bs i c : List ℕ) (r : ℕ) → r ≡ tableFault bs → (r ≡ 0 → ⊥) → SurveySays bs i i c c r
-survey-refused bs i c zero e d = absurd (d refl)
-survey-refused bs i c (suc r) e d = record { number = rw (← e); inside-array = rw (eqb·suc-zero r); counted-array = rw (eqb·suc-zero r) }
+-- nothing is laid out, with a refusal that is not 0
+unlaid : (bs ts ms : List ℕ) (r : ℕ) → (r ≡ 0 → ⊥) → r ≡ layFault bs (length ts) (length ms) → LaySays bs ts ts ms ms r 0 0 0
+unlaid bs ts ms zero d e = absurd (d refl)
+unlaid bs ts ms (suc r) d e =
+    let z = eqb·suc-zero r in
+    record { refusal = e; state-count = rw z; letter-count = rw z; start-state = rw z; target-array = rw z; mark-array = rw z }
+
+pub lay-refused : (bs ts ms : List ℕ) (r : ℕ) → r ≡ tableFault bs → (r ≡ 0 → ⊥) → LaySays bs ts ts ms ms r 0 0 0
+lay-refused bs ts ms zero e d = absurd (d refl)
+lay-refused bs ts ms (suc r) e d = unlaid bs ts ms (suc r) d (rw (← e))
 
 module _ (bs : List ℕ) (taken : Taken bs) where
   pub components-short : (o : List ℕ) → length o < tableOf bs .states → ComponentsSay bs o o Refusal.arrays
@@ -32,11 +43,25 @@ module _ (bs : List ℕ) (taken : Taken bs) where
   components-found o o′ l h =
       let e = le-ltb (length o) (tableOf bs .states) l in record { number = rw (taken, e); array = rw (taken, e) h }
 
-  pub survey-short : (i c : List ℕ) → ltb (length i) (tableOf bs .states) || ltb (length c) (tableOf bs .states) ≡ true
-      → SurveySays bs i i c c Refusal.arrays
-  survey-short i c e = record { number = rw (taken, e); inside-array = refl; counted-array = refl }
+  module _ (ts ms : List ℕ) where
+    abbrev short : Bool
+    short = let cells = tableOf bs .states * tableOf bs .letters in ltb (length ts) cells || ltb (length ms) cells
 
-  pub surveyed : (i i′ c c′ : List ℕ) → ltb (length i) (tableOf bs .states) || ltb (length c) (tableOf bs .states) ≡ false
-      → i′ ≡ over (insideSets (tableOf bs)) i
-      → c′ ≡ over (countedSets (tableOf bs)) c → SurveySays bs i i′ c c′ 0
-  surveyed i i′ c c′ e hi hc = record { number = rw (taken, e); inside-array = hi; counted-array = hc }
+    pub lay-short : short ≡ true → LaySays bs ts ts ms ms Refusal.arrays 0 0 0
+    lay-short e = unlaid bs ts ms Refusal.arrays (λ z. omega arith) (rw (taken, e))
+
+    pub laid : (ts′ ms′ : List ℕ) → short ≡ false → ts′ ≡ over (targetCells (tableOf bs)) ts → ms′ ≡ over (markCells (tableOf bs)) ms
+        → LaySays bs ts ts′ ms ms′ 0 (tableOf bs .states) (tableOf bs .letters) (tableOf bs .start)
+    laid ts′ ms′ e et em =
+        record { refusal = rw (taken, e); state-count = refl; letter-count = refl; start-state = refl; target-array = et; mark-array = em }
+
+-- a survey that fits has room
+pub survey-room : (n m a b c d : ℕ) → surveyFits n m a b c d ≡ true
+    → (n ≤ maxStates) × (m ≤ maxLetters) × (n * m ≤ a) × (n * m ≤ b) × (n ≤ c) × (n ≤ d)
+survey-room n m a b c d h =
+    let p = and-parts (leb n maxStates) (leb m maxLetters && (leb (n * m) a && (leb (n * m) b && (leb n c && leb n d)))) h in
+    let q = and-parts (leb m maxLetters) (leb (n * m) a && (leb (n * m) b && (leb n c && leb n d))) (p .1) in
+    let r = and-parts (leb (n * m) a) (leb (n * m) b && (leb n c && leb n d)) (q .1) in
+    let s = and-parts (leb (n * m) b) (leb n c && leb n d) (r .1) in
+    let u = and-parts (leb n c) (leb n d) (s .1) in
+    (leb-true n maxStates (p .0), leb-true m maxLetters (q .0), leb-true (n * m) a (r .0), leb-true (n * m) b (s .0), leb-true n c (u .0), leb-true n d (u .1))

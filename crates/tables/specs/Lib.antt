@@ -1,4 +1,3 @@
 -- What the crate's own contracts cite beyond the rules.
-pub mod Words
-pub mod Surveys
+pub mod Layouts
 pub mod Parts

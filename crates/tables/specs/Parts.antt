@@ -2,19 +2,21 @@
 --     Taken bs               the bytes are a table that is taken
 --     statesOf bs            its number of states
 --     systemIn bs            its transition system
---     makesCount bs i        the test that bit i stands for: the transition of p by a, if it is inside, makes pair i + 1 count
 --     Listed n f xs          the first n entries of xs are f 0, f 1 ..
 --     Gathered s b k q sets  the entry of each component's number holds, as bits, the tests b i of k that some inside transition of one of
 --                            its states below q passes; for any system and any tests
+--     CellsRoom n m ts ms hs     the arrays have an entry for each cell, and the homes are the components
 use mathlib.Core.Path.{_≡_}
 use mathlib.Core.Bool.{Bool, _&&_}
 use mathlib.Core.List.{List}
-use Prim.Native.Nat.{ℕ, suc, _^_, _<_, _≤_}
+use Prim.Native.Nat.{ℕ, _*_, _^_, _<_, _≤_}
 use lib.Dec.{eqb}
 use lib.ListN.{length, getD}
 use Rattle.rules.specs.Basics.{bit, anyBelow}
+use Rattle.rules.specs.Judges.{paritySystem}
+use Rattle.rules.specs.Limits.{maxStates, maxLetters}
 use Rattle.rules.specs.Systems.{System, isInside, componentOf}
-use Rattle.rules.specs.Tables.{tableOf, tableFault, systemOf, countsBy}
+use Rattle.rules.specs.Tables.{tableOf, tableFault, systemOf}
 
 abbrev pub Taken : List ℕ → Type 0
 Taken bs = tableFault bs ≡ 0
@@ -25,9 +27,6 @@ statesOf bs = tableOf bs .states
 abbrev pub systemIn : List ℕ → System
 systemIn bs = systemOf (tableOf bs)
 
-abbrev pub makesCount : List ℕ → ℕ → ℕ → ℕ → Bool
-makesCount bs i = countsBy (tableOf bs) (suc i)
-
 pub record Listed (n : ℕ) (f : ℕ → ℕ) (xs : List ℕ) : Type 0 where
   pub enough : n ≤ length xs
   pub entry : (q : ℕ) → q < n → getD xs q 0 ≡ f q
@@ -35,3 +34,10 @@ pub record Listed (n : ℕ) (f : ℕ → ℕ) (xs : List ℕ) : Type 0 where
 pub record Gathered (s : System) (b : ℕ → ℕ → ℕ → Bool) (k q : ℕ) (sets : List ℕ) : Type 0 where
   pub tests : (c i : ℕ) → c < s .states → bit i (getD sets c 0) ≡ anyBelow q (λ p. eqb (componentOf s p) c && anyBelow (s .letters) (λ a. isInside s p a && b i p a))
   pub below : (c : ℕ) → getD sets c 0 < 2 ^ k
+
+pub record CellsRoom (n m : ℕ) (ts ms hs : List ℕ) : Type 0 where
+  pub few-states : n ≤ maxStates
+  pub few-letters : m ≤ maxLetters
+  pub target-room : n * m ≤ length ts
+  pub mark-room : n * m ≤ length ms
+  pub homes : Listed n (componentOf (paritySystem n m ts)) hs

@@ -1,8 +1,7 @@
 -- From what the exploration found to what the translator promises.
---     survey-fault             with an entry for each state that a table can have, a survey refuses nothing but the table
---     survey-listed            what a survey leaves of a table that is taken, the states' entries by place
+--     lay-fault                with an entry for each cell that a table can have, laying out refuses nothing but the table
+--     laid-table               what is laid out of a table that is taken
 --     tooShort bs c a b d e    the capacity c or one of the lent arrays is out of range, for the table that the bytes say
---     codes-cut                the codes at the front of an array are the table's
 --     has-room                 what holds where nothing is too short
 --     kept-few, kept-sources   no more rows are kept than there is room for, and their source states are bytes
 --     translate-refused        the table's own refusal
@@ -22,7 +21,7 @@ use borrow.Author.Tests.{ne-eqb, ltb-false, le-ltb}
 use Rattle.rules.specs.Basics.{pick, firstOf, tabulate}
 use Rattle.rules.specs.Arrays.{Beyond, Cleared}
 use Rattle.rules.specs.Codings.{Codes}
-use Rattle.rules.specs.Limits.{maxStates, maxRows, noRow}
+use Rattle.rules.specs.Limits.{maxStates, maxLetters, maxRows, noRow}
 use Rattle.rules.specs.Refusals as Refusal
 use Rattle.rules.specs.Records.{decimal}
 use Rattle.rules.specs.Rows.{Row, Plan, rowsOf, isFull}
@@ -35,10 +34,9 @@ use Rattle.rules.proofs.Coding.{all-at, row-coded, rows-coded, rows-good, full-
 use Rattle.rules.proofs.Filling.{beyond-then, beyond-wider, over-front, over-beyond, padded-is, filled-is, cleared-is}
 use Rattle.rules.proofs.Refusals.{taken-table, fault-below}
 use Rattle.rules.proofs.Demands.{says-agrees}
-use Rattle.tables.specs.Parts.{Taken, statesOf, Listed}
-use Rattle.tables.specs.Surveys.{surveyFault}
-use Rattle.tables.proofs.Surveying.{listed}
-use Rattle.tables.proofs.Cells.{cell-within}
+use Rattle.tables.specs.Parts.{Taken}
+use Rattle.tables.specs.Layouts.{layFault, LaySays}
+use Rattle.tables.proofs.Laying.{targets-laid, marks-laid, is-table}
 use Rattle.explore.specs.declared.Explored.{Explored}
 use Rattle.explore.specs.declared.Explored.the-variants.{Rows, Full}
 use Rattle.explore.specs.Cells.{sourceIn}
@@ -46,30 +44,34 @@ use Rattle.explore.specs.Effects.{keyPlan}
 use Rattle.explore.specs.Exploring.{Leaves}
 use Rattle.translate.specs.Arrays.{RowsCleared}
 use Rattle.translate.specs.Keys.{keyRow, IsKey}
-use Rattle.translate.specs.Cells.{taskOf, AllCodes, TableCodes}
+use Rattle.translate.specs.Cells.{taskOf, LaidTable}
 use Rattle.translate.specs.Rows.{TableExplored, Unpacked, refusalOf, rowsKept}
 use Rattle.translate.proofs.Coding.{table-codes, table-fit}
+
+abbrev maxCells : ℕ
+maxCells = maxStates * maxLetters
 
 -- a refusal that is given only with another adds nothing
 first-only : (x r : ℕ) → (x ≡ 0 → r ≡ 0) → firstOf x r ≡ x
 first-only zero r h = h refl
 first-only (suc x) r h = refl
 
-pub survey-fault : (bs : List ℕ) → surveyFault bs maxStates maxStates ≡ tableFault bs
-survey-fault bs =
-    first-only (tableFault bs) _ (λ z. rw (le-ltb maxStates (tableOf bs .states) (taken-table bs z .sizes .most-states)))
+pub lay-fault : (bs : List ℕ) → layFault bs maxCells maxCells ≡ tableFault bs
+lay-fault bs =
+    first-only (tableFault bs) _ (λ z. rw (le-ltb maxCells (tableOf bs .states * tableOf bs .letters) (taken-table bs z .sizes .most-cells)))
 
-pub survey-listed : (bs : List ℕ) (g : ℕ → ℕ) (old xs : List ℕ) (r : ℕ) → Taken bs → r ≡ 0 → length xs ≡ maxStates
-    → xs ≡ pick (eqb r 0) (over (tabulate (statesOf bs) 0 g) old) old → Listed (statesOf bs) g xs
-survey-listed bs g old xs r taken z size e =
-    listed (statesOf bs) g old xs (omega (arith, taken-table bs taken .sizes .most-states)) (rw z at e)
-
--- the codes of a table, cut from a longer array
-pub codes-cut : (t : Table) (cells : List ℕ) (used : ℕ) → used ≡ t .states * t .letters → AllCodes t cells → TableCodes t (take used cells)
-codes-cut t cells used e codes =
+-- what is laid out of a table that is taken
+pub laid-table : (bs ts ts′ ms ms′ : List ℕ) (number states letters start : ℕ) → Taken bs → number ≡ 0 → length ts′ ≡ maxCells → length ms′ ≡ maxCells
+    → LaySays bs ts ts′ ms ms′ number states letters start → LaidTable (tableOf bs) states letters start ts′ ms′
+laid-table bs ts ts′ ms ms′ number states letters start taken z lt lm s =
+    let sizes = taken-table bs taken .sizes .most-cells in
     record {
-      size = length-take-le used cells (omega (arith, codes .enough)) ∙ e;
-      entry = λ q a l r. let within = cell-within (t .states) (t .letters) q a l r in getD-take used cells _ 0 (omega arith) ∙ codes .entry q a r within;
+      good = is-table bs taken;
+      states = rw z at (s .state-count);
+      letters = rw z at (s .letter-count);
+      start-state = rw z at (s .start-state);
+      targets = targets-laid bs taken ts ts′ (omega arith) (rw z at (s .target-array));
+      marks = marks-laid bs taken ms ms′ (omega arith) (rw z at (s .mark-array));
     }
 
 -- ---- the returns

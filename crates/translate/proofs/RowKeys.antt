@@ -2,26 +2,22 @@
 --     row-source, row-word, row-of-key     what the key of a row says of its state and its record, and that it stands for the row
 --     row-pairs            every element of a row's record is the number of a pair that a place can hold
 --     row-is-key           the key of a row is a key
---     entry-is-row, entry-small, entry-below     the row by which a crossing enters at a state, its record's word, and its key
+--     entry-is-row, entry-small     the row by which a crossing enters at a state, and its record's word
 use mathlib.Core.Path.{_≡_, sym, ap, _∙_}
 use mathlib.Core.List.{List}
 use Prim.Native.Nat.{ℕ, _≤_, _<_}
 use native.Mathlib.Omega.{arith}
-use lib.ListN.{getD}
 use Rattle.rules.specs.Basics.{tabulate}
 use Rattle.rules.specs.Limits.{maxPairs}
 use Rattle.rules.specs.Rows.{Row, row}
-use Rattle.rules.specs.Tables.{Table, tableOf, counts, rising}
+use Rattle.rules.specs.Tables.{Table, counts, rising}
 use Rattle.rules.proofs.Appearance.{kept-length}
 use Rattle.rules.proofs.Arrays.{tabulate-length}
 use Rattle.rules.proofs.RabinTables.{rising-ordering, ordering-holds, counted-parts}
-use Rattle.rules.proofs.Refusals.{TakenTable}
 use Rattle.records.specs.Words.{packed}
 use Rattle.records.proofs.Packing.{AllPairs, pairs-packed, packed-small}
-use Rattle.tables.specs.Parts.{Listed}
-use Rattle.explore.specs.Cells.{span, sourceIn, memoryIn, crossingKind}
+use Rattle.explore.specs.Cells.{span, sourceIn, memoryIn}
 use Rattle.translate.specs.Keys.{rowKey, keyRow, IsRow, IsKey}
-use Rattle.translate.specs.Cells.{entryKey}
 
 module _ (t : Table) (pairs : t .pairs ≤ maxPairs) (r : Row (List ℕ)) (good : IsRow t r) where
   pub row-pairs : AllPairs (r .memory)
@@ -54,9 +50,3 @@ entry-is-row t q pairs l =
 
 pub entry-small : (t : Table) (q : ℕ) → t .pairs ≤ maxPairs → q < t .states → packed (rising t q) < span
 entry-small t q pairs l = word-small t pairs (row q (rising t q)) (entry-is-row t q pairs l)
-
--- the keys at which states are entered are too small to be taken for a kind of transition
-pub entry-below : (bs entries : List ℕ) → TakenTable bs → Listed (tableOf bs .states) (entryKey (tableOf bs)) entries
-    → (q : ℕ) → q < tableOf bs .states → getD entries q 0 < crossingKind
-entry-below bs entries table listed q l =
-    omega (arith, listed .entry q l, entry-small (tableOf bs) q (table .sizes .most-pairs) l, table .sizes .most-states)

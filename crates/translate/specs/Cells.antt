@@ -3,21 +3,31 @@
 --     entryKey t q         the key of the row by which a crossing enters at q
 --     cellCode t q a       the code of the transition of q by a
 --     taskOf t             what is explored
---     CodesTo t p cells    the codes of the cells below p;  AllCodes t cells  of all cells
+--     codeOf n x w h k hs es     the code of a transition with target x and marks w, where h is the home of its state and k the pairs that count there, by
+--                                the homes hs of all states and the keys es at which they are entered
+--     codeIn n m .. q a    the code of the transition of q by a, by the laid-out cells
+--     risingKey q k        the key of the row at q with the pairs of the set k, rising
+--     CellsRoom n m ..     the arrays have an entry for each cell or each state, and the keys are small
+--     Written n m f p cells      the cells below p hold what f says of their state and letter
+--     LaidTable t n m start ts ms    t is a table with these sizes and this start, and the arrays hold its cells
 --     TableCodes t cells   the codes of all cells, and nothing behind them
 use mathlib.Core.Path.{_≡_}
 use mathlib.Core.Bool.{Bool, _&&_}
 use mathlib.Core.List.{List}
-use Prim.Native.Nat.{ℕ, suc, _+_, _*_, _<_, _≤_}
-use lib.Dec.{leb}
+use Prim.Native.Nat.{ℕ, suc, _+_, _*_, _/_, _%_, _<_, _≤_}
+use lib.Bits.{bitAnd}
+use lib.Dec.{eqb, leb}
 use lib.ListN.{length, getD}
-use Rattle.rules.specs.Basics.{pick, asBits}
+use Rattle.rules.specs.Basics.{pick, keep, tabulate, asBits}
+use Rattle.rules.specs.Limits.{maxStates, maxLetters}
 use Rattle.rules.specs.Systems.{isInside, cell}
 use Rattle.rules.specs.Rows.{row}
 use Rattle.rules.specs.Tables.{Table, systemOf, targetOf, prohibits, requires, counts, rising}
+use Rattle.records.specs.Words.{limit, isMarked, packed}
+use Rattle.tables.specs.Layouts.{TargetsLaid, MarksLaid, IsTable}
 use Rattle.explore.specs.declared.Task.{Task}
 use Rattle.explore.specs.declared.Rule.the-variants.{Pairs}
-use Rattle.explore.specs.Cells.{crossingCode, insideCode}
+use Rattle.explore.specs.Cells.{keyOf, crossingKind, crossingCode, insideCode}
 use Rattle.translate.specs.Keys.{rowKey}
 
 abbrev pub cutMarks : Table → ℕ → (ℕ → Bool) → ℕ
@@ -34,12 +44,38 @@ cellCode t q a =
 abbrev pub taskOf : Table → Task
 taskOf t = record { rule = Pairs; letters = t .letters; start = entryKey t (t .start) }
 
-pub record CodesTo (t : Table) (p : ℕ) (cells : List ℕ) : Type 0 where
-  pub enough : t .states * t .letters ≤ length cells
-  pub entry : (q a : ℕ) → a < t .letters → cell (t .letters) q a < p → getD cells (cell (t .letters) q a) 0 ≡ cellCode t q a
+-- codes by the laid-out cells
+abbrev pub codeOf : ℕ → ℕ → ℕ → ℕ → ℕ → List ℕ → List ℕ → ℕ
+codeOf n x w h k hs es =
+    pick (leb n x) 0 (pick (eqb (getD hs x 0) h) (insideCode x (bitAnd (w % 256) k + 256 * bitAnd (w / 256) k)) (crossingCode (getD es x 0)))
 
-abbrev pub AllCodes : Table → List ℕ → Type 0
-AllCodes t cells = CodesTo t (t .states * t .letters) cells
+abbrev pub codeIn : ℕ → ℕ → List ℕ → List ℕ → List ℕ → List ℕ → List ℕ → ℕ → ℕ → ℕ
+codeIn n m ts ms hs cs es q a = codeOf n (getD ts (cell m q a) 0) (getD ms (cell m q a) 0) (getD hs q 0) (getD cs q 0) hs es
+
+abbrev pub risingKey : ℕ → ℕ → ℕ
+risingKey q k = keyOf q (packed (keep (isMarked k) (tabulate limit 1 (λ i. i))))
+
+pub record CellsRoom (n m : ℕ) (ts ms hs cs es : List ℕ) : Type 0 where
+  pub few-states : n ≤ maxStates
+  pub few-letters : m ≤ maxLetters
+  pub target-room : n * m ≤ length ts
+  pub mark-room : n * m ≤ length ms
+  pub home-room : n ≤ length hs
+  pub set-room : n ≤ length cs
+  pub key-room : n ≤ length es
+  pub small-keys : (q : ℕ) → q < n → getD es q 0 < crossingKind
+
+pub record Written (n m : ℕ) (f : ℕ → ℕ → ℕ) (p : ℕ) (cells : List ℕ) : Type 0 where
+  pub enough : n * m ≤ length cells
+  pub entry : (q a : ℕ) → a < m → cell m q a < p → getD cells (cell m q a) 0 ≡ f q a
+
+pub record LaidTable (t : Table) (n m start : ℕ) (ts ms : List ℕ) : Type 0 where
+  pub good : IsTable t
+  pub states : n ≡ t .states
+  pub letters : m ≡ t .letters
+  pub start-state : start ≡ t .start
+  pub targets : TargetsLaid t ts
+  pub marks : MarksLaid t ms
 
 pub record TableCodes (t : Table) (cells : List ℕ) : Type 0 where
   pub size : length cells ≡ t .states * t .letters

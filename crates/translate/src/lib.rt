@@ -1,11 +1,12 @@
 // Translates a Rabin table into a parity table, by index appearance records.
-// It rests on `tables`, which checks a table and says what counts where, and on `explore`, which finds the rows. `translate_table` keeps
+// It rests on `tables`, which checks a table, lays it out and says what counts where, and on `explore`, which finds the rows. `translate_table` keeps
 // the promise `TranslateSays` of the rules, and with it demand 3 of the arrays as they are left, `TranslationAgrees`.
 use explore::Explored;
 use explore::are_short;
+use rules::limit::MAX_LETTERS;
 use rules::limit::MAX_STATES;
 use rules::refusal;
-use tables::survey_table;
+use tables::lay_table;
 
 mod cells;
 mod clear;
@@ -56,16 +57,16 @@ pub fn translate_table(
     ensures says { λ r. ⌜ TranslateSays (now (table .entry)) capacity (now (targets .entry)) (now (targets .exit)) (now (priorities .entry)) (now (priorities .exit)) (now (sources .entry)) (now (sources .exit)) (now (records .entry)) (now (records .exit)) (r .number) (r .rows) ⌝ }
     ensures agrees { λ r. ⌜ TranslationAgrees (now (table .entry)) (now (targets .exit)) (now (priorities .exit)) (now (sources .exit)) (r .number) (r .rows) ⌝ }
 {
-    let mut inside = [0; MAX_STATES as usize];
-    let mut counted = [0; MAX_STATES as usize];
-    let refused = survey_table(table, &mut inside, &mut counted);
-    if refused != 0 {
+    let mut cell_targets = [0; MAX_STATES as usize * MAX_LETTERS as usize];
+    let mut cell_marks = [0; MAX_STATES as usize * MAX_LETTERS as usize];
+    let laid = lay_table(table, &mut cell_targets, &mut cell_marks);
+    if laid.number != 0 {
         return Translation {
-            number: refused,
+            number: laid.number,
             rows: 0,
         };
     }
-    let m = table[1];
+    let m = laid.letters;
     let short = are_short(
         capacity,
         m,
@@ -82,9 +83,9 @@ pub fn translate_table(
     }
     // the keys of the rows stand in the array of record numbers until they are unpacked
     let explored = rows::explore_table(
-        table,
-        &inside,
-        &counted,
+        laid,
+        &cell_targets,
+        &cell_marks,
         capacity,
         records,
         targets,

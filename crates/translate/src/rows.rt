@@ -9,36 +9,58 @@ use explore::find_rows;
 use records::Record;
 use rules::limit::MAX_LETTERS;
 use rules::limit::MAX_STATES;
+use tables::Laid;
+use tables::survey_cells;
 ghost use Prim.Native.Nat.{ℕ, _*_, _<_, _≤_};
 ghost use lib.ListN.{length, getD};
 ghost use Rattle.rules.specs.Limits.{maxRows};
-ghost use Rattle.rules.specs.Tables.{tableOf};
-ghost use Rattle.tables.specs.Parts.{Taken, statesOf, Listed};
-ghost use Rattle.tables.specs.Surveys.{insideLetters, countedPairs};
+ghost use Rattle.rules.specs.Tables.{Table};
 ghost use Rattle.explore.specs.Cells.{sourceIn};
+ghost use Rattle.translate.specs.Cells.{LaidTable};
 ghost use Rattle.translate.specs.Rows.{TableExplored, Unpacked};
 
-// Finds the rows of a table that is taken. The codes of the cells go into a lent array.
+// Finds the rows of a laid-out table. The codes of the cells go into a lent array.
 fn explore_with(
-    table: &[u8],
-    inside: &[u16],
-    counted: &[u8],
+    laid: Laid,
+    cell_targets: &[u16],
+    cell_marks: &[u16],
     cells: &mut [u32],
     capacity: usize,
     keys: &mut [u32],
     targets: &mut [u16],
     priorities: &mut [u8],
 ) -> Explored
-    requires { ⌜ Taken (now table) × Listed (statesOf (now table)) (insideLetters (tableOf (now table))) (now inside) × Listed (statesOf (now table)) (countedPairs (tableOf (now table))) (now counted) × (statesOf (now table) * tableOf (now table) .letters ≤ length (now cells)) ⌝ }
-    ensures { λ r. ⌜ TableExplored (tableOf (now (table .entry))) capacity (now (keys .entry)) (now (keys .exit)) (now (targets .entry)) (now (targets .exit)) (now (priorities .entry)) (now (priorities .exit)) r ⌝ }
+    requires { ⌜ ((t : Table) × LaidTable t (laid .states) (laid .letters) (laid .start) (now «cell_targets») (now «cell_marks»)) × (laid .states * laid .letters ≤ length (now cells)) ⌝ }
+    ensures { λ r. ⌜ ((t : Table) → LaidTable t (laid .states) (laid .letters) (laid .start) (now («cell_targets» .entry)) (now («cell_marks» .entry)) → TableExplored t capacity (now (keys .entry)) (now (keys .exit)) (now (targets .entry)) (now (targets .exit)) (now (priorities .entry)) (now (priorities .exit)) r) ⌝ }
 {
+    let states = laid.states;
+    let letters = laid.letters as usize;
+    let first = laid.start;
+    let mut homes = [0; MAX_STATES as usize];
+    let mut counted = [0; MAX_STATES as usize];
     let mut entries = [0; MAX_STATES as usize];
-    write_entries(table, counted, &mut entries);
-    write_codes(table, inside, counted, &entries, cells);
-    let letters = table[1] as usize;
-    let used = table[0] as usize * letters;
+    survey_cells(
+        states,
+        letters,
+        cell_targets,
+        cell_marks,
+        &mut homes,
+        &mut counted,
+    );
+    write_entries(states, &counted, &mut entries);
+    write_codes(
+        states,
+        letters,
+        cell_targets,
+        cell_marks,
+        &homes,
+        &counted,
+        &entries,
+        cells,
+    );
+    let used = states * letters;
     let rule = Rule::Pairs;
-    let start = entries[table[3] as usize];
+    let start = entries[first];
     let task = Task {
         rule,
         letters,
@@ -47,24 +69,24 @@ fn explore_with(
     find_rows(task, &cells[..used], capacity, keys, targets, priorities)
 }
 
-// Finds the rows of a table that is taken.
+// Finds the rows of a laid-out table.
 pub(crate) fn explore_table(
-    table: &[u8],
-    inside: &[u16],
-    counted: &[u8],
+    laid: Laid,
+    cell_targets: &[u16],
+    cell_marks: &[u16],
     capacity: usize,
     keys: &mut [u32],
     targets: &mut [u16],
     priorities: &mut [u8],
 ) -> Explored
-    requires { ⌜ Taken (now table) × Listed (statesOf (now table)) (insideLetters (tableOf (now table))) (now inside) × Listed (statesOf (now table)) (countedPairs (tableOf (now table))) (now counted) ⌝ }
-    ensures { λ r. ⌜ TableExplored (tableOf (now (table .entry))) capacity (now (keys .entry)) (now (keys .exit)) (now (targets .entry)) (now (targets .exit)) (now (priorities .entry)) (now (priorities .exit)) r ⌝ }
+    requires { ⌜ ((t : Table) × LaidTable t (laid .states) (laid .letters) (laid .start) (now «cell_targets») (now «cell_marks»)) ⌝ }
+    ensures { λ r. ⌜ ((t : Table) → LaidTable t (laid .states) (laid .letters) (laid .start) (now («cell_targets» .entry)) (now («cell_marks» .entry)) → TableExplored t capacity (now (keys .entry)) (now (keys .exit)) (now (targets .entry)) (now (targets .exit)) (now (priorities .entry)) (now (priorities .exit)) r) ⌝ }
 {
     let mut cells = [0; MAX_STATES as usize * MAX_LETTERS as usize];
     explore_with(
-        table,
-        inside,
-        counted,
+        laid,
+        cell_targets,
+        cell_marks,
         &mut cells,
         capacity,
         keys,

@@ -1,8 +1,8 @@
 //! Times the proved translator and judges against the tuned, the plain and the specialised ones,
 //! in one process.
 //!
-//! `bench` runs everything; `bench a`, `bench b` and `bench c` run one part, `bench quick` all
-//! parts shortened. `bench profile-translate`, `bench profile-tiny`, `bench profile-parity` and
+//! `bench` runs everything; `bench a` to `bench d` run one part, `bench quick` all parts
+//! shortened. `bench profile-translate`, `bench profile-tiny`, `bench profile-parity` and
 //! `bench profile-rabin` only run the proved side, for a profiler, or the tuned one if the word
 //! `tuned` follows. The environment variable SEED sets the seed.
 
@@ -12,7 +12,7 @@ use std::time::{Duration, Instant};
 
 use duckbullion::calls::{self, Judged, Translation};
 use duckbullion::random::Random;
-use duckbullion::{plain, specialised, tuned};
+use duckbullion::{plain, specialised, systems, tuned};
 
 /// A translator of any side.
 type Translator = fn(&[u8], usize, &mut [u16], &mut [u8], &mut [u8], &mut [u32]) -> Translation;
@@ -1208,6 +1208,68 @@ fn profile(what: &str, side: usize, buffers: &mut Buffers) {
     }
 }
 
+/// Part (d): components of systems in an array, through the search's own call.
+fn part_d(random: &mut Random, effort: Effort) {
+    println!("\n(d) components of a system in an array: nanoseconds for a cell (state and letter), by the search's own call;");
+    println!("tuned: Tarjan's walk in Pearce's form, iterative, with arrays made once\n");
+    println!(
+        "    {:<10} {:>7} {:>6} {:>10} {:>9} {:>9} {:>8}",
+        "shape", "letters", "states", "components", "proved", "tuned", "p/tuned"
+    );
+    let mut largest = 0.0f64;
+    for shape in systems::SHAPES {
+        for letters in [2, 16] {
+            for states in [64, 250, 1_000] {
+                let targets = systems::targets(random, shape, states, letters);
+                let mut work = calls::Work::new(states, 0);
+                let mut tarjan = tuned::Tarjan::new(states);
+                let mut out = vec![0; states];
+                let found = calls::find_components_of_system(
+                    states, letters, &targets, &mut work, &mut out,
+                );
+                compare(PROVED, found, "a system that fits");
+                let expected = out.clone();
+                tarjan.components(states, letters, &targets, &mut out);
+                compare(TUNED, out == expected, "components");
+                let times = interleave(
+                    &[PROVED, TUNED],
+                    effort.rounds,
+                    effort.case,
+                    |side, calls| {
+                        let begin = Instant::now();
+                        for _ in 0..calls {
+                            let targets = black_box(&targets[..]);
+                            if side == PROVED {
+                                calls::find_components_of_system(
+                                    states, letters, targets, &mut work, &mut out,
+                                );
+                            } else {
+                                tarjan.components(states, letters, targets, &mut out);
+                            }
+                            black_box(&out);
+                        }
+                        begin.elapsed()
+                    },
+                );
+                let cells = (states * letters) as f64;
+                let components = (0..states).filter(|&q| usize::from(out[q]) == q).count();
+                largest = largest.max(against(&times, TUNED));
+                println!(
+                    "    {:<10} {:>7} {:>6} {:>10} {:>9.2} {:>9.2} {:>8.2}",
+                    format!("{shape:?}"),
+                    letters,
+                    states,
+                    components,
+                    times[PROVED] / cells,
+                    times[TUNED] / cells,
+                    against(&times, TUNED)
+                );
+            }
+        }
+    }
+    println!("\n    summary (d): largest p/tuned {largest:.2}");
+}
+
 /// Reads the words of the command line and runs the parts they name.
 fn main() {
     let words: Vec<String> = std::env::args().skip(1).collect();
@@ -1215,6 +1277,7 @@ fn main() {
         "a",
         "b",
         "c",
+        "d",
         "quick",
         "profile-translate",
         "profile-tiny",
@@ -1282,5 +1345,8 @@ fn main() {
     }
     if chosen("c") {
         part_c(&mut Random::of_case(seed, 3), effort, &mut buffers);
+    }
+    if chosen("d") {
+        part_d(&mut Random::of_case(seed, 4), effort);
     }
 }

@@ -6,46 +6,39 @@ use native.Mathlib.Nat.{le-antisymm, zero-mul}
 use native.Mathlib.Numerals.{add-one}
 use native.Mathlib.Omega.{arith}
 use lib.ListN.{length}
-use Rattle.rules.specs.Tables.{tableOf}
-use Rattle.rules.proofs.Refusals.{TakenTable, taken-table}
-use Rattle.translate.specs.Cells.{CodesTo}
-use Rattle.translate.proofs.CellCodes.{codes-none}
+use Rattle.translate.specs.Cells.{codeIn, Written}
+use Rattle.translate.proofs.CellCodes.{written-none}
 use Rattle.translate.proofs.cells.write_codes.Statement.{statement}
 use Rattle.translate.proofs.cells.write_codes.Tie as tie
 
 abbrev Inv-loop : tie.InvT-loop
-Inv-loop table inside counted entries cells₀ n q₀ cells q = (q ≤ n) × CodesTo (tableOf table) (q * tableOf table .letters) cells × (length cells ≡ length cells₀)
+Inv-loop n m targets marks homes counted entries cells₀ q₀ cells q =
+    (q ≤ n) × Written n m (codeIn n m targets marks homes counted entries) (q * m) cells × (length cells ≡ length cells₀)
 
 abbrev μ-loop : tie.MeasureT-loop
-μ-loop table inside counted entries cells₀ n q₀ cells q = n - q
-
-known : (c : tie.Start Inv-loop μ-loop) → TakenTable (c .args .table .now)
-known c = taken-table _ (c .pre .0)
-
-shared-slice-read-n : tie.Need-shared-slice-read-n Inv-loop μ-loop
-shared-slice-read-n c = omega (arith, known (c .before .before .before .before .before .before))
+μ-loop n m targets marks homes counted entries cells₀ q₀ cells q = n - q
 
 loop-holds : tie.Need-loop-holds Inv-loop μ-loop
 loop-holds c =
     let s = c .before .before .before .before .before .before in
-    (search needs, codes-none (tableOf (s .args .table .now)) (s .args .cells .now) _ (zero-mul _) (s .pre .4), refl)
+    (omega arith, written-none _ _ _ _ _ (zero-mul _) (s .pre .1), refl)
 
 write-row-requires : tie.Need-write-row-requires Inv-loop μ-loop
-write-row-requires c κs =
-    let s = c .before .before .before .before .before .before .before .before .before in
-    (s .pre .0, c .before .loop-test .taken, s .pre .1, s .pre .2, s .pre .3, c .before .before .loop .inv .1)
+write-row-requires c κs = (c .before .before .before .before .before .before .before .before .before .pre .0, c .before .loop-test .taken, c .before .before .loop .inv .1)
 
 add-q : tie.Need-add-q Inv-loop μ-loop
-add-q c = omega (arith, known (c .before .before .before .before .before .before .before .before .before .before .before .before))
+add-q c = omega (arith, c .before .before .before .before .before .before .before .before .before .before .before .before .pre .0 .few-states)
 
 loop-again : tie.Need-loop-again Inv-loop μ-loop
 loop-again c =
     let i = c .before .before .before .before .before .loop in
     let row = c .before .before .write-row in
-    (omega arith, rw (add-one (i .q)) (row .ensures), row .kept .1 .1 .1 .1 .1 .0 ∙ i .inv .2)
+    (omega arith, rw (add-one (i .q)) (row .ensures), row .kept .1 .1 .1 .1 .1 .1 .1 .1 .0 ∙ i .inv .2)
 
 returns : tie.Need-returns Inv-loop μ-loop
-returns c = let i = c .before .loop in rw (le-antisymm (i .inv .0) (c .loop-test .left)) at (i .inv .1)
+returns c =
+    let i = c .before .loop in
+    rw (le-antisymm (i .inv .0) (c .loop-test .left)) at (i .inv .1)
 
 pub write-codes-spec : {M : Type 1} → statement M
 write-codes-spec =
@@ -53,8 +46,6 @@ write-codes-spec =
     (tie.spec
     Inv-loop
     μ-loop
-    shared-slice-read-n
-    (λ c. search needs)
     loop-holds
     write-row-requires
     add-q

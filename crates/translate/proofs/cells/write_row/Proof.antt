@@ -6,109 +6,67 @@ use native.Mathlib.Nat.{le-antisymm, suc-mul}
 use native.Mathlib.Omega.{arith}
 use lib.ListN.{length, length-set}
 use Rattle.rules.specs.Systems.{cell}
-use Rattle.rules.specs.Tables.{tableOf}
-use Rattle.rules.proofs.Refusals.{TakenTable, taken-table}
-use Rattle.tables.proofs.Cells.{cell-within, row-within, target-within, prohibited-within, required-within}
-use Rattle.translate.specs.Cells.{CodesTo}
-use Rattle.translate.proofs.RowKeys.{entry-below}
-use Rattle.translate.proofs.CellCodes.{code-of-bytes, codes-more}
+use Rattle.tables.proofs.Cells.{cell-within, row-within}
+use Rattle.translate.specs.Cells.{codeIn, Written}
+use Rattle.translate.proofs.CellCodes.{written-more}
 use Rattle.translate.proofs.cells.write_row.Statement.{statement}
 use Rattle.translate.proofs.cells.write_row.Tie as tie
 
 abbrev Inv-loop : tie.InvT-loop
-Inv-loop table inside counted entries q cells₀ n m letters pairs first marks a₀ cells a =
-    (a ≤ tableOf table .letters) × CodesTo (tableOf table) (cell (tableOf table .letters) q a) cells × (length cells ≡ length cells₀)
+Inv-loop n m targets marks homes counted entries q cells₀ home pairs first a₀ cells a =
+    (a ≤ m) × Written n m (codeIn n m targets marks homes counted entries) (cell m q a) cells × (length cells ≡ length cells₀)
 
 abbrev μ-loop : tie.MeasureT-loop
-μ-loop table inside counted entries q cells₀ n m letters pairs first marks a₀ cells a = m - a
+μ-loop n m targets marks homes counted entries q cells₀ home pairs first a₀ cells a = m - a
 
--- the sizes of the table, and the cells before the row
-sized : (s : tie.Start Inv-loop μ-loop) → let t = tableOf (s .args .table .now) in TakenTable (s .args .table .now) × (s .args .q * t .letters ≤ t .states * t .letters)
-sized s = (taken-table _ (s .pre .0), row-within _ _ (s .args .q) (s .pre .1))
-
--- in a turn the cell is one of the table's
+-- in a turn the cell is one of the system's
 module _ (c : tie.In-loop Inv-loop μ-loop) where
   abbrev start : tie.Start Inv-loop μ-loop
-  start = c .before .before .before .before .before .before .before .before .before .before .before
+  start = c .before .before .before .before .before .before .before .before .before .before
 
-  placed : let t = tableOf (start .args .table .now) in TakenTable (start .args .table .now) × (cell (t .letters) (start .args .q) (c .before .loop .a) < t .states * t .letters)
-  placed = (taken-table _ (start .pre .0), cell-within _ _ (start .args .q) (c .before .loop .a) (start .pre .1) (c .loop-test .taken))
+  placed : let a = start .args in
+      (cell (a .m) (a .q) (c .before .loop .a) < a .n * a .m) × (a .n * a .m ≤ length (a .targets .now)) × (a .n * a .m ≤ length (a .marks .now))
+  placed = (cell-within _ _ (start .args .q) (c .before .loop .a) (start .pre .1) (c .loop-test .taken), start .pre .0 .target-room, start .pre .0 .mark-room)
 
-shared-slice-read-n : tie.Need-shared-slice-read-n Inv-loop μ-loop
-shared-slice-read-n c = omega (arith, sized (c .before .before .before .before .before .before))
+mul-home : tie.Need-mul-home Inv-loop μ-loop
+mul-home c = omega (arith, c .before .before .before .before .before .before .pre .1, c .before .before .before .before .before .before .pre .0 .few-states)
 
-shared-slice-read-m : tie.Need-shared-slice-read-m Inv-loop μ-loop
-shared-slice-read-m c = omega (arith, sized (c .before .before .before .before .before .before .before))
-
-cast-m : tie.Need-cast-m Inv-loop μ-loop
-cast-m c = omega (arith, sized (c .before .before .before .before .before .before .before))
-
-mul-letters : tie.Need-mul-letters Inv-loop μ-loop
-mul-letters c = omega (arith, sized (c .before .before .before .before .before .before .before), c .before .before .before .before .before .before .before .pre .1)
-
-shared-slice-read-letters : tie.Need-shared-slice-read-letters Inv-loop μ-loop
-shared-slice-read-letters c = omega (arith, c .before .before .before .before .before .before .before .before .pre .1, c .before .before .before .before .before .before .before .before .pre .2 .enough)
+shared-slice-read-home : tie.Need-shared-slice-read-home Inv-loop μ-loop
+shared-slice-read-home c = omega (arith, c .before .before .before .before .before .before .before .pre .1, c .before .before .before .before .before .before .before .pre .0 .home-room)
 
 shared-slice-read-pairs : tie.Need-shared-slice-read-pairs Inv-loop μ-loop
-shared-slice-read-pairs c = omega (arith, c .before .before .before .before .before .before .before .before .before .pre .1, c .before .before .before .before .before .before .before .before .before .pre .3 .enough)
+shared-slice-read-pairs c = omega (arith, c .before .before .before .before .before .before .before .before .pre .1, c .before .before .before .before .before .before .before .before .pre .0 .set-room)
 
 mul-first : tie.Need-mul-first Inv-loop μ-loop
-mul-first c = omega (arith, sized (c .before .before .before .before .before .before .before .before .before))
-
-cast-marks : tie.Need-cast-marks Inv-loop μ-loop
-cast-marks c = omega (arith, sized (c .before .before .before .before .before .before .before .before .before))
-
-mul-marks : tie.Need-mul-marks Inv-loop μ-loop
-mul-marks c = omega (arith, sized (c .before .before .before .before .before .before .before .before .before))
-
-add-marks : tie.Need-add-marks Inv-loop μ-loop
-add-marks c = omega (arith, sized (c .before .before .before .before .before .before .before .before .before))
-
-mul-marks-2 : tie.Need-mul-marks-2 Inv-loop μ-loop
-mul-marks-2 c = omega (arith, sized (c .before .before .before .before .before .before .before .before .before))
-
-add-marks-2 : tie.Need-add-marks-2 Inv-loop μ-loop
-add-marks-2 c = omega (arith, sized (c .before .before .before .before .before .before .before .before .before))
+mul-first c = let a = c .before .before .before .before .before .before .before .before .args in omega (arith, row-within (a .n) (a .m) (a .q) (c .before .before .before .before .before .before .before .before .pre .1), c .before .before .before .before .before .before .before .before .pre .0 .target-room)
 
 loop-holds : tie.Need-loop-holds Inv-loop μ-loop
 loop-holds c =
-    let s = c .before .before .before .before .before .before .before .before .before in
-    let m = tableOf (s .args .table .now) .letters in
-    let none : cell m (s .args .q) 0 ≡ s .args .q * m = omega arith in
-    (search needs, rw none (s .pre .5), refl)
-
-shared-slice-read-cell-code : tie.Need-shared-slice-read-cell-code Inv-loop μ-loop
-shared-slice-read-cell-code c = let s = c .before .before .before .before .before .before .before .before .before .before .before .before in target-within _ (s .pre .0) (s .args .q) _ (s .pre .1) (c .before .loop-test .taken)
-
-shared-slice-read-cell-code-2 : tie.Need-shared-slice-read-cell-code-2 Inv-loop μ-loop
-shared-slice-read-cell-code-2 c = let s = c .before .before .before .before .before .before .before .before .before .before .before .before .before in prohibited-within _ (s .pre .0) (s .args .q) _ (s .pre .1) (c .before .before .loop-test .taken)
-
-shared-slice-read-cell-code-3 : tie.Need-shared-slice-read-cell-code-3 Inv-loop μ-loop
-shared-slice-read-cell-code-3 c = let s = c .before .before .before .before .before .before .before .before .before .before .before .before .before .before in required-within _ (s .pre .0) (s .args .q) _ (s .pre .1) (c .before .before .before .loop-test .taken)
+    let s = c .before .before .before .before .before .before .before .before in
+    let none : cell (s .args .m) (s .args .q) 0 ≡ s .args .q * s .args .m = omega arith in
+    (omega arith, rw none (s .pre .2), refl)
 
 cell-code-requires : tie.Need-cell-code-requires Inv-loop μ-loop
 cell-code-requires c κs =
-    let s = c .before .before .before .before .before .before .before .before .before .before .before .before .before .before in
-    (s .pre .4 .enough, entry-below _ _ (sized s .0) (s .pre .4))
+    let r = c .before .before .before .before .before .before .before .before .before .before .before .before .pre .0 in
+    (r .few-states, r .home-room, r .key-room, r .small-keys)
 
 slice-write-cells : tie.Need-slice-write-cells Inv-loop μ-loop
-slice-write-cells c = omega (arith, placed (c .before .before .before .before), c .before .before .before .before .before .loop .inv .1 .enough)
+slice-write-cells c = omega (arith, placed (c .before .before .before), c .before .before .before .before .loop .inv .1 .enough)
 
 loop-again : tie.Need-loop-again Inv-loop μ-loop
 loop-again c =
-    let turn = c .before .before .before .before in
-    let s = start turn in
-    let bs = s .args .table .now in
-    let i = turn .before .loop in
-    let l = turn .loop-test .taken in
-    let code = code-of-bytes bs (s .args .inside .now) (s .args .counted .now) (s .args .entries .now) (s .pre .0) (s .args .q) (i .a) (s .pre .1) l (s .pre .2) (s .pre .3) (s .pre .4) (c .cell-code .result) (c .cell-code .ensures) in
-    (omega arith, codes-more (tableOf bs) (i .cells) (s .args .q) (i .a) (c .cell-code .result) l (omega (arith, placed turn, i .inv .1 .enough)) code (i .inv .1), simp length-set (i .inv .2))
+    let u : tie.In-loop Inv-loop μ-loop = c .before .before .before in
+    let a = start u .args in
+    let i = u .before .loop in
+    let room = i .inv .1 .enough in
+    let f = codeIn (a .n) (a .m) (a .targets .now) (a .marks .now) (a .homes .now) (a .counted .now) (a .entries .now) in
+    (omega arith, written-more (a .n) (a .m) f (i .cells) (a .q) (i .a) _ (u .loop-test .taken) (omega (arith, placed u)) (c .cell-code .ensures) (i .inv .1), simp length-set (i .inv .2))
 
 returns : tie.Need-returns Inv-loop μ-loop
 returns c =
-    let s = c .before .before .before .before .before .before .before .before .before .before .before in
     let i = c .before .loop in
-    rw (suc-mul (s .args .q) (tableOf (s .args .table .now) .letters)) (rw (le-antisymm (i .inv .0) (c .loop-test .left)) at (i .inv .1))
+    rw (suc-mul (c .before .before .before .before .before .before .before .before .before .before .args .q) (c .before .before .before .before .before .before .before .before .before .before .args .m)) (rw (le-antisymm (i .inv .0) (c .loop-test .left)) at (i .inv .1))
 
 pub write-row-spec : {M : Type 1} → statement M
 write-row-spec =
@@ -116,36 +74,22 @@ write-row-spec =
     (tie.spec
     Inv-loop
     μ-loop
-    shared-slice-read-n
-    shared-slice-read-m
-    cast-m
-    mul-letters
-    shared-slice-read-letters
+    mul-home
+    shared-slice-read-home
     shared-slice-read-pairs
     mul-first
-    cast-marks
-    mul-marks
-    add-marks
-    mul-marks-2
-    add-marks-2
     loop-holds
-    (λ c. omega (arith, placed c))
-    (λ c. omega (arith, placed c))
     (λ c. omega (arith, placed (c)))
     (λ c. omega (arith, placed (c)))
-    shared-slice-read-cell-code
     (λ c. omega (arith, placed (c .before)))
     (λ c. omega (arith, placed (c .before)))
-    shared-slice-read-cell-code-2
+    (λ c. omega (arith, placed (c .before)))
     (λ c. omega (arith, placed (c .before .before)))
-    (λ c. omega (arith, placed (c .before .before)))
-    (λ c. omega (arith, placed (c .before .before)))
-    shared-slice-read-cell-code-3
     cell-code-requires
-    (λ c. omega (arith, placed (c .before .before .before .before)))
-    (λ c. omega (arith, placed (c .before .before .before .before)))
+    (λ c. omega (arith, placed (c .before .before .before)))
+    (λ c. omega (arith, placed (c .before .before .before)))
     slice-write-cells
-    (λ c. omega (arith, placed (c .before .before .before .before)))
+    (λ c. omega (arith, placed (c .before .before .before)))
     (λ c. search needs)
     loop-again
     (λ c. c .before .loop .inv .2)

@@ -1,81 +1,101 @@
 -- `translate::rows::explore_with` meets its contract: the codes that are written are the table's, and the task is its.
 use borrow.Author.Needs.{needs}
-use mathlib.Core.Path.{refl, sym}
-use Prim.Native.Nat.{_*_}
+use mathlib.Core.Path.{_≡_, refl, sym}
+use mathlib.Core.List.{List}
+use Prim.Native.Nat.{ℕ, _*_, _<_, _≤_}
 use native.Mathlib.Omega.{arith}
+use lib.ListN.{length, getD}
 use lib.Seq.{length-take-le}
-use Rattle.rules.specs.Tables.{tableOf}
-use Rattle.rules.proofs.Refusals.{TakenTable, taken-table}
-use Rattle.translate.proofs.Promises.{codes-cut}
+use Rattle.rules.specs.Judges.{paritySystem}
+use Rattle.rules.specs.Limits.{maxStates}
+use Rattle.rules.specs.Systems.{componentOf}
+use Rattle.tables.specs.Layouts.{countedIn}
+use Rattle.tables.specs.Parts.{Listed}
+use Rattle.translate.proofs.CellCodes.{Found, laid-cells, surveyed, found-sets, found-room, found-start, found-codes}
 use Rattle.translate.proofs.rows.explore_with.Statement.{statement}
 use Rattle.translate.proofs.rows.explore_with.Tie as tie
 
-known : (c : tie.Start) → TakenTable (c .args .table .now)
-known c = taken-table _ (c .pre .0)
+-- the sizes are those of a table
+module _ (s : tie.Start) where
+  few : (s .args .laid .states ≤ maxStates) × (s .args .laid .start < s .args .laid .states)
+  few =
+      let x = s .pre .0 .1 in
+      (omega (arith, x .states, x .good .few-states), omega (arith, x .states, x .start-state, x .good .start-state))
+
+-- the cells are surveyed
+module _ (c : tie.After-survey-cells) where
+  abbrev start : tie.Start
+  start = c .before .before .before .before .before .before .before .before .before .before
+
+  abbrev homes : List ℕ
+  homes = c .survey-cells .last .1 .1 .1 .1 .0
+
+  abbrev sets : List ℕ
+  sets = c .survey-cells .last .1 .1 .1 .1 .1 .0
+
+  survey : let a = start .args in let n = a .laid .states in let m = a .laid .letters in
+      Listed n (componentOf (paritySystem n m (a .cell-targets .now))) homes × Listed n (countedIn n m (a .cell-targets .now) (a .cell-marks .now)) sets
+  survey = surveyed _ _ _ _ _ _ (start .pre .0 .1) _ homes _ sets _ refl refl (c .survey-cells .kept .1 .1 .1 .1 .0) (c .survey-cells .kept .1 .1 .1 .1 .1 .0) (c .survey-cells .ensures)
 
 write-entries-requires : tie.Need-write-entries-requires
 write-entries-requires c κs =
-    let s = c .before .before .before .before .before .before .before .before in
-    (s .pre .0, s .pre .2, omega (arith, known s))
+    let v = c .before .before .before .before in
+    let s = c .before .before .before .before .before .before .before .before .before .before .before .before .before .before in
+    let l = survey v .1 in
+    (few s .0, l .enough, few s .0, λ q b. found-sets _ _ _ _ _ _ (s .pre .0 .1) (sets v) l q b .1)
+
+-- the keys are written
+module _ (c : tie.After-write-entries) where
+  abbrev view : tie.After-survey-cells
+  view = c .before .before .before .before .before
+
+  abbrev keys : List ℕ
+  keys = c .write-entries .last .1 .1 .0
+
+  found : let a = start view .args in Found (a .laid .states) (a .laid .letters) (a .cell-targets .now) (a .cell-marks .now) (homes view) (sets view) keys
+  found = record { homes = survey view .0; sets = survey view .1; keys = c .write-entries .ensures }
 
 write-codes-requires : tie.Need-write-codes-requires
 write-codes-requires c κs =
-    let s = c .before .before .before .before .before .before .before .before .before .before .before .before in
-    (s .pre .0, s .pre .1, s .pre .2, c .before .before .before .write-entries .ensures, s .pre .3)
-
-shared-slice-read-letters : tie.Need-shared-slice-read-letters
-shared-slice-read-letters c = omega (arith, known (c .before .before .before .before .before .before .before .before .before .before .before .before .before .before .before .before))
-
-cast-letters : tie.Need-cast-letters
-cast-letters c = omega (arith, known (c .before .before .before .before .before .before .before .before .before .before .before .before .before .before .before .before))
-
-shared-slice-read-used : tie.Need-shared-slice-read-used
-shared-slice-read-used c = omega (arith, known (c .before .before .before .before .before .before .before .before .before .before .before .before .before .before .before .before .before))
-
-cast-used : tie.Need-cast-used
-cast-used c = omega (arith, known (c .before .before .before .before .before .before .before .before .before .before .before .before .before .before .before .before .before))
+    let k = c .before .before .before .before .before in
+    (found-room _ _ _ _ _ _ (c .before .before .before .before .before .before .before .before .before .before .before .before .before .before .before .before .before .before .before .before .pre .0 .1) (homes (view k)) (sets (view k)) (keys k) (found k), c .before .before .before .before .before .before .before .before .before .before .before .before .before .before .before .before .before .before .before .before .pre .1)
 
 mul-used : tie.Need-mul-used
-mul-used c = omega (arith, known (c .before .before .before .before .before .before .before .before .before .before .before .before .before .before .before .before .before))
-
-shared-slice-read-start : tie.Need-shared-slice-read-start
-shared-slice-read-start c = omega (arith, known (c .before .before .before .before .before .before .before .before .before .before .before .before .before .before .before .before .before .before))
-
-cast-start : tie.Need-cast-start
-cast-start c = omega (arith, known (c .before .before .before .before .before .before .before .before .before .before .before .before .before .before .before .before .before .before))
+mul-used c = omega (arith, laid-cells _ _ _ _ _ _ (c .before .before .before .before .before .before .before .before .before .before .before .before .before .before .before .before .before .before .before .before .before .before .before .pre .0 .1))
 
 mul-start : tie.Need-mul-start
-mul-start c = omega (arith, known (c .before .before .before .before .before .before .before .before .before .before .before .before .before .before .before .before .before .before))
+mul-start c = omega (arith, few (c .before .before .before .before .before .before .before .before .before .before .before .before .before .before .before .before .before .before .before .before .before .before .before))
 
 array-read-start : tie.Need-array-read-start
-array-read-start c = omega (arith, known (c .before .before .before .before .before .before .before .before .before .before .before .before .before .before .before .before .before .before))
+array-read-start c = omega (arith, few (c .before .before .before .before .before .before .before .before .before .before .before .before .before .before .before .before .before .before .before .before .before .before .before))
 
 slice-aggregate-find-rows : tie.Need-slice-aggregate-find-rows
-slice-aggregate-find-rows c = let w = c .before .before .before .before .before .before .write-codes in sym (length-take-le _ (w .last .1 .1 .1 .1 .0) (w .ensures .enough))
+slice-aggregate-find-rows c = let w = c .before .before .before .write-codes in sym (length-take-le _ (w .last .1 .1 .1 .1 .1 .1 .1 .0) (w .ensures .enough))
 
 returns : tie.Need-returns
 returns c =
-    let s = c .before .before .before .before .before .before .before .before .before .before .before .before .before .before .before .before .before .before .before .before .before .before .before .before .before .before .before .before .before in
-    let t = tableOf (s .args .table .now) in
-    let codes = codes-cut t (c .before .before .before .before .before .before .before .before .before .before .before .before .before .before .before .before .write-codes .last .1 .1 .1 .1 .0) (t .states * t .letters) refl (c .before .before .before .before .before .before .before .before .before .before .before .before .before .before .before .before .write-codes .ensures) in
-    let entered = c .before .before .before .before .before .before .before .before .before .before .before .before .before .before .before .before .before .before .before .before .write-entries .ensures .entry (t .start) (known s .start-state) in
-    record { cells = _; codes = codes; says = rw (← entered) (c .before .before .before .before .before .before .find-rows .ensures) }
+    λ t x.
+    let k = c .before .before .before .before .before .before .before .before .before .before .before .before .before .before .before .before .before .before .before in
+    let start-key = found-start t _ _ _ _ _ x (homes (view k)) (sets (view k)) (keys k) (found k) in
+    let codes = found-codes t _ _ _ _ _ x (homes (view k)) (sets (view k)) (keys k) (found k) (c .before .before .before .before .before .before .before .before .before .before .before .before .before .write-codes .last .1 .1 .1 .1 .1 .1 .1 .0) (c .before .before .before .before .before .before .before .before .before .before .before .before .before .write-codes .ensures) in
+    record { cells = _; codes = codes; says = rw (← start-key, ← x .letters) (c .before .before .before .before .before .before .find-rows .ensures) }
 
 pub explore-with-spec : {M : Type 1} → statement M
 explore-with-spec =
     tie.close
     (tie.spec
     (λ c. search needs)
+    (λ c. search needs)
+    (λ c. search needs)
+    (λ c κs. search needs)
+    (λ c. search needs)
+    (λ c. search needs)
     write-entries-requires
     (λ c. search needs)
+    (λ c. search needs)
+    (λ c. search needs)
     write-codes-requires
-    shared-slice-read-letters
-    cast-letters
-    shared-slice-read-used
-    cast-used
     mul-used
-    shared-slice-read-start
-    cast-start
     mul-start
     array-read-start
     (λ c. search needs)

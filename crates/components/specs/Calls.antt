@@ -1,0 +1,50 @@
+-- What the crate's calls promise, for all sizes and arrays. A prime marks an array's contents at exit.
+--     cellsFit n m t           n states and m letters are few enough, and t targets are enough for their cells
+--     workFits n a b c d e     five arrays have an entry for each state
+--     componentsFit n m ..     a search for components can begin: sizes, targets, five arrays to work in, and that of the results
+--     ComponentsFound n m ..   the smallest state of each state's component at the front of `out`, what stands behind untouched
+--     reachFits n m ..         a search from a state can begin
+--     ReachFound n m from ..   exactly the states that `from` reaches are met, each with the place that it was met from and the letter
+--     PathFound place ..       where a search has left parents and letters: the end of `out`, from the result on, is a path to the state at the place
+use mathlib.Core.Path.{_≡_}
+use mathlib.Core.Bool.{Bool, true, false, _&&_}
+use mathlib.Core.List.{List}
+use Prim.Native.Nat.{ℕ, _+_, _*_, _<_, _≤_}
+use lib.Dec.{ltb, leb}
+use lib.ListN.{length, take, drop}
+use Rattle.rules.specs.Basics.{pick, tabulate}
+use Rattle.rules.specs.Judges.{paritySystem}
+use Rattle.rules.specs.Says.{over}
+use Rattle.rules.specs.Systems.{System, Path, componentOf}
+use Rattle.components.specs.Places.{at}
+use Rattle.components.specs.Searching.{doneNumber}
+use Rattle.components.specs.Reaches.{Reached, ReachSays}
+
+abbrev pub cellsFit : ℕ → ℕ → ℕ → Bool
+cellsFit n m t = ltb n doneNumber && (ltb m doneNumber && leb (n * m) t)
+
+abbrev pub workFits : ℕ → ℕ → ℕ → ℕ → ℕ → ℕ → Bool
+workFits n a b c d e = leb n a && (leb n b && (leb n c && (leb n d && leb n e)))
+
+abbrev pub componentsFit : ℕ → ℕ → List ℕ → List ℕ → List ℕ → List ℕ → List ℕ → List ℕ → List ℕ → Bool
+componentsFit n m targets numbers stack starts waiting next out =
+    cellsFit n m (length targets) && (workFits n (length numbers) (length stack) (length starts) (length waiting) (length next) && leb n (length out))
+
+pub record ComponentsFound (n m : ℕ) (targets numbers stack starts waiting next out out′ : List ℕ) (r : Bool) : Type 0 where
+  pub answer : r ≡ componentsFit n m targets numbers stack starts waiting next out
+  pub array : out′ ≡ pick r (over (tabulate n 0 (componentOf (paritySystem n m targets))) out) out
+
+abbrev pub reachFits : ℕ → ℕ → ℕ → List ℕ → List ℕ → List ℕ → List ℕ → List ℕ → Bool
+reachFits n m from targets numbers queue parents by =
+    cellsFit n m (length targets) && (leb m 256 && (ltb from n && workFits n (length numbers) (length queue) (length parents) (length by) n))
+
+pub record ReachFound (n m from : ℕ) (targets numbers numbers′ queue queue′ parents parents′ by by′ : List ℕ) (r : ℕ) : Type 0 where
+  pub unfit : reachFits n m from targets numbers queue parents by ≡ false
+      → (r ≡ 0) × (numbers′ ≡ numbers) × (queue′ ≡ queue) × (parents′ ≡ parents) × (by′ ≡ by)
+  pub found : reachFits n m from targets numbers queue parents by ≡ true → ReachSays (paritySystem n m targets) from r numbers′ queue′ parents′ by′
+
+pub record PathFound (place : ℕ) (parents by out out′ : List ℕ) (r : ℕ) : Type 0 where
+  pub within : r ≤ length out
+  pub front : take r out′ ≡ take r out
+  pub path : (s : System) (from c k a : ℕ) (number queue : ℕ → ℕ) → Reached s from c k a number queue (at parents) (at by)
+      → place < c → place < length parents → place < length by → place ≤ length out → Path s from (drop r out′) (queue place)

@@ -1,0 +1,132 @@
+// The components of a transition system in time linear in its cells, and all that a state reaches with a path to each, for any number of
+// states below 65,535. It rests on `rules` and knows a system only as an array of targets: the cell of state q and letter a is number
+// q · m + a, and a target that is no state means that there is no transition. `find_components`, `find_reached` and `path_to` keep the
+// promises `ComponentsFound`, `ReachFound` and `PathFound` of this crate, for all sizes and arrays; what does not fit is answered as such.
+mod cells;
+mod paths;
+mod reach;
+
+ghost use mathlib.Core.Path.{_≡_};
+ghost use Prim.Native.Nat.{ℕ, _<_, _≤_};
+ghost use lib.ListN.{length};
+ghost use Rattle.components.specs.Places.{at};
+ghost use Rattle.components.specs.Calls.{cellsFit, workFits, ComponentsFound, ReachFound, PathFound};
+
+// The sizes are small enough, and there is a target for each cell.
+fn cells_fit(states: usize, letters: usize, cells: usize) -> bool
+    ensures { λ r. ⌜ r ≡ cellsFit states letters cells ⌝ }
+{
+    if (paths::DONE as usize <= states) | (paths::DONE as usize <= letters) {
+        return false;
+    }
+    states * letters <= cells
+}
+
+// Five arrays have an entry for each state.
+fn work_fits(states: usize, a: usize, b: usize, c: usize, d: usize, e: usize) -> bool
+    ensures { λ r. ⌜ r ≡ workFits states a b c d e ⌝ }
+{
+    (states <= a) & ((states <= b) & ((states <= c) & ((states <= d) & (states <= e))))
+}
+
+// Clears the first n entries.
+fn clear(n: usize, array: &mut [u16])
+    requires { ⌜ n ≤ length (now array) ⌝ }
+    ensures { λ _. ⌜ ((q : ℕ) → q < n → at (now (array .exit)) q ≡ 0) ⌝ }
+{
+    let mut q = 0;
+    // the entries below q are cleared
+    while q < n {
+        array[q] = 0;
+        q += 1;
+    }
+}
+
+// The smallest state of each state's component, in the first entries of `out`; false where the sizes or an array do not fit. The other
+// five arrays are to work in: what they hold afterwards is not said.
+pub fn find_components(
+    states: usize,
+    letters: usize,
+    targets: &[u16],
+    numbers: &mut [u16],
+    stack: &mut [u16],
+    starts: &mut [u16],
+    waiting: &mut [u16],
+    next: &mut [u16],
+    out: &mut [u16],
+) -> bool
+    ensures { λ r. ⌜ ComponentsFound states letters (now (targets .entry)) (now (numbers .entry)) (now (stack .entry)) (now (starts .entry)) (now (waiting .entry)) (now (next .entry)) (now (out .entry)) (now (out .exit)) r ⌝ }
+{
+    let work = work_fits(
+        states,
+        numbers.len(),
+        stack.len(),
+        starts.len(),
+        waiting.len(),
+        next.len(),
+    );
+    let fits = cells_fit(states, letters, targets.len()) & (work & (states <= out.len()));
+    if !fits {
+        return false;
+    }
+    clear(states, numbers);
+    clear(states, next);
+    paths::search_all(
+        states,
+        letters,
+        targets,
+        numbers,
+        stack,
+        starts,
+        waiting,
+        next,
+        out,
+    );
+    true
+}
+
+// All that a state reaches: how many states are met, and in the arrays for each state its place plus 1, or 0 where it is not reached, and
+// for each place the state, the place that it was met from and the letter. 0 where the sizes or an array do not fit.
+pub fn find_reached(
+    states: usize,
+    letters: usize,
+    targets: &[u16],
+    from: usize,
+    numbers: &mut [u16],
+    queue: &mut [u16],
+    parents: &mut [u16],
+    by: &mut [u8],
+) -> usize
+    ensures { λ r. ⌜ ReachFound states letters from (now (targets .entry)) (now (numbers .entry)) (now (numbers .exit)) (now (queue .entry)) (now (queue .exit)) (now (parents .entry)) (now (parents .exit)) (now (by .entry)) (now (by .exit)) r ⌝ }
+{
+    let work = work_fits(
+        states,
+        numbers.len(),
+        queue.len(),
+        parents.len(),
+        by.len(),
+        states,
+    );
+    let fits = cells_fit(states, letters, targets.len())
+        & ((letters <= 256) & ((from < states) & work));
+    if !fits {
+        return 0;
+    }
+    clear(states, numbers);
+    reach::reach_from(states, letters, targets, from, numbers, queue, parents, by)
+}
+
+// The letters of a path to the state at a place, at the end of `out`, and where they begin.
+pub fn path_to(place: usize, parents: &[u16], by: &[u8], out: &mut [u8]) -> usize
+    ensures { λ r. ⌜ PathFound place (now (parents .entry)) (now (by .entry)) (now (out .entry)) (now (out .exit)) r ⌝ }
+{
+    let mut begin = out.len();
+    let mut i = place;
+    // the letters from begin on lead from the state at place i to that at the place asked for
+    while (i != 0) & ((begin != 0) & ((i < parents.len()) & (i < by.len()))) {
+        begin -= 1;
+        out[begin] = by[i];
+        i = parents[i] as usize;
+    }
+    begin
+}

@@ -1,0 +1,331 @@
+// A path-based search for components. The open states stand on a stack and fall into parts; each part shares a component and leads to
+// the next. A letter that leads back to an earlier part joins all parts from there on; a last part whose letters are all read is a
+// component. It takes time linear in the cells: each letter is read once, each state is opened and settled once, and each part is joined or settled once.
+use crate::cells::target_at;
+ghost use mathlib.Core.Path.{_≡_};
+ghost use Prim.Native.Nat.{ℕ, suc, _+_, _*_, _-_, _<_, _≤_};
+ghost use lib.ListN.{length};
+ghost use Rattle.rules.specs.Basics.{tabulate};
+ghost use Rattle.rules.specs.Says.{over};
+ghost use Rattle.rules.specs.Systems.{componentOf};
+ghost use Rattle.rules.specs.Judges.{paritySystem};
+ghost use Rattle.components.specs.Places.{at, Rising};
+ghost use Rattle.components.specs.Searching.{doneNumber, Searched, Joined, Scanned, Entered, Smallest, Settled, Room, TurnSays, SearchSays};
+
+// The number of a state whose component is known.
+pub(crate) const DONE: u16 = 65535;
+
+// How many states are open, how many parts they form, and how many of them wait.
+pub(crate) struct Heights {
+    open: usize,
+    parts: usize,
+    waiting: usize,
+}
+
+// The letter at which reading stops, and the parts that are left.
+struct Reading {
+    letter: usize,
+    parts: usize,
+}
+
+// The parts that are left when all behind a number are joined to the part that holds it.
+fn joined(starts: &[u16], parts: usize, number: u16) -> usize
+    requires { ⌜ (0 < parts) × (parts ≤ length (now starts)) × (at (now starts) 0 < number) × Rising parts (at (now starts)) ⌝ }
+    ensures { λ r. ⌜ Joined (at (now (starts .entry))) parts number r ⌝ }
+{
+    let mut kept = parts;
+    // the parts from kept on start at the number or behind it
+    while number <= starts[kept - 1] {
+        kept -= 1;
+    }
+    kept
+}
+
+// Reads the letters of q from `from` on, up to the first that leads to a state not yet met.
+fn scan(
+    n: usize,
+    m: usize,
+    targets: &[u16],
+    q: usize,
+    from: usize,
+    numbers: &[u16],
+    starts: &[u16],
+    parts: usize,
+) -> Reading
+    requires { ⌜ (q < n) × (n * m ≤ length (now targets)) × (n ≤ length (now numbers)) × (0 < parts) × (parts ≤ length (now starts)) × (at (now starts) 0 ≡ 0) × Rising parts (at (now starts)) ⌝ }
+    ensures { λ r. ⌜ Scanned (paritySystem n m (now (targets .entry))) (at (now (numbers .entry))) (at (now (starts .entry))) q from parts (r .letter) (r .parts) ⌝ }
+{
+    let first = q * m;
+    let mut kept = parts;
+    let mut a = from;
+    // the letters from `from` up to a are read: none leads to a part before the last of those kept
+    while a < m {
+        let target = target_at(targets, first + a);
+        if target < n {
+            let number = numbers[target];
+            if number == 0 {
+                return Reading {
+                    letter: a,
+                    parts: kept,
+                };
+            }
+            kept = joined(starts, kept, number);
+        }
+        a += 1;
+    }
+    Reading {
+        letter: a,
+        parts: kept,
+    }
+}
+
+// Opens a state.
+fn enter(
+    q: usize,
+    count: usize,
+    parts: usize,
+    left: usize,
+    numbers: &mut [u16],
+    stack: &mut [u16],
+    starts: &mut [u16],
+    waiting: &mut [u16],
+)
+    requires { ⌜ (q < doneNumber) × (count < doneNumber) × (q < length (now numbers)) × (count < length (now stack)) × (parts < length (now starts)) × (left < length (now waiting)) ⌝ }
+    ensures { λ _. ⌜ Entered q count parts left (now (numbers .entry)) (now (numbers .exit)) (now (stack .entry)) (now (stack .exit)) (now (starts .entry)) (now (starts .exit)) (now (waiting .entry)) (now (waiting .exit)) ⌝ }
+{
+    numbers[q] = (count + 1) as u16;
+    stack[count] = q as u16;
+    starts[parts] = count as u16;
+    waiting[left] = q as u16;
+}
+
+// The smallest of the states at some places.
+fn smallest(stack: &[u16], from: usize, to: usize) -> u16
+    requires { ⌜ (from < to) × (to ≤ length (now stack)) ⌝ }
+    ensures { λ r. ⌜ Smallest (at (now (stack .entry))) from to r ⌝ }
+{
+    let mut best = stack[from];
+    let mut i = from + 1;
+    // best is the smallest of the states at the places from `from` up to i
+    while i < to {
+        let q = stack[i];
+        if q < best {
+            best = q;
+        }
+        i += 1;
+    }
+    best
+}
+
+// Gives the states at some places their component.
+fn settle(label: u16, from: usize, to: usize, stack: &[u16], numbers: &mut [u16], outs: &mut [u16])
+    requires { ⌜ (from ≤ to) × (to ≤ length (now stack)) × ((i : ℕ) → from ≤ i → i < to → at (now stack) i < length (now numbers)) × ((i : ℕ) → from ≤ i → i < to → at (now stack) i < length (now outs)) ⌝ }
+    ensures { λ _. ⌜ Settled label from to (at (now (stack .entry))) (now (numbers .entry)) (now (numbers .exit)) (now (outs .entry)) (now (outs .exit)) ⌝ }
+{
+    let mut i = from;
+    // the states at the places from `from` up to i have their component
+    while i < to {
+        let q = stack[i] as usize;
+        numbers[q] = DONE;
+        outs[q] = label;
+        i += 1;
+    }
+}
+
+// Reads on from q, which waits last and stands in the last part: up to a state that is not yet met, which is opened, or to the end.
+fn extend(
+    n: usize,
+    m: usize,
+    targets: &[u16],
+    q: usize,
+    count: usize,
+    parts: usize,
+    left: usize,
+    numbers: &mut [u16],
+    stack: &mut [u16],
+    starts: &mut [u16],
+    waiting: &mut [u16],
+    next: &mut [u16],
+    outs: &[u16],
+) -> Heights
+    requires { ⌜ Room (paritySystem n m (now targets)) (now targets) (now numbers) (now stack) (now starts) (now waiting) (now next) (now outs) × (m < doneNumber) × Searched (paritySystem n m (now targets)) count parts left (at (now numbers)) (at (now stack)) (at (now starts)) (at (now waiting)) (at (now next)) (at (now outs)) × (0 < left) × (0 < parts) × (at (now waiting) (left - 1) ≡ q) × (at (now starts) (parts - 1) < at (now numbers) q) ⌝ }
+    ensures { λ r. ⌜ TurnSays (paritySystem n m (now (targets .entry))) count parts left (r .open) (r .parts) (r .waiting) (now (numbers .entry)) (now (numbers .exit)) (now (stack .exit)) (now (starts .exit)) (now (waiting .exit)) (now (next .exit)) (now (outs .entry)) (now (outs .entry)) ⌝ }
+{
+    let found = scan(n, m, targets, q, next[q] as usize, numbers, starts, parts);
+    let letter = found.letter;
+    let kept = found.parts;
+    if m <= letter {
+        next[q] = m as u16;
+        return Heights {
+            open: count,
+            parts: kept,
+            waiting: left - 1,
+        };
+    }
+    let target = target_at(targets, q * m + letter);
+    enter(target, count, kept, left, numbers, stack, starts, waiting);
+    next[q] = (letter + 1) as u16;
+    Heights {
+        open: count + 1,
+        parts: kept + 1,
+        waiting: left + 1,
+    }
+}
+
+// One turn of the search: reads on from the last state that waits, if it stands in the last part; or else that part is a component.
+fn turn(
+    n: usize,
+    m: usize,
+    targets: &[u16],
+    count: usize,
+    parts: usize,
+    left: usize,
+    numbers: &mut [u16],
+    stack: &mut [u16],
+    starts: &mut [u16],
+    waiting: &mut [u16],
+    next: &mut [u16],
+    outs: &mut [u16],
+) -> Heights
+    requires { ⌜ Room (paritySystem n m (now targets)) (now targets) (now numbers) (now stack) (now starts) (now waiting) (now next) (now outs) × (m < doneNumber) × Searched (paritySystem n m (now targets)) count parts left (at (now numbers)) (at (now stack)) (at (now starts)) (at (now waiting)) (at (now next)) (at (now outs)) × (0 < count) ⌝ }
+    ensures { λ r. ⌜ TurnSays (paritySystem n m (now (targets .entry))) count parts left (r .open) (r .parts) (r .waiting) (now (numbers .entry)) (now (numbers .exit)) (now (stack .exit)) (now (starts .exit)) (now (waiting .exit)) (now (next .exit)) (now (outs .entry)) (now (outs .exit)) ⌝ }
+{
+    let start = starts[parts - 1];
+    if 0 < left {
+        let q = waiting[left - 1] as usize;
+        if start < numbers[q] {
+            return extend(
+                n,
+                m,
+                targets,
+                q,
+                count,
+                parts,
+                left,
+                numbers,
+                stack,
+                starts,
+                waiting,
+                next,
+                outs,
+            );
+        }
+    }
+    let from = start as usize;
+    let label = smallest(stack, from, count);
+    settle(label, from, count, stack, numbers, outs);
+    Heights {
+        open: from,
+        parts: parts - 1,
+        waiting: left,
+    }
+}
+
+// Searches from a state that is not yet met: everything that it reaches has its component.
+fn search(
+    n: usize,
+    m: usize,
+    targets: &[u16],
+    root: usize,
+    numbers: &mut [u16],
+    stack: &mut [u16],
+    starts: &mut [u16],
+    waiting: &mut [u16],
+    next: &mut [u16],
+    outs: &mut [u16],
+)
+    requires { ⌜ Room (paritySystem n m (now targets)) (now targets) (now numbers) (now stack) (now starts) (now waiting) (now next) (now outs) × (m < doneNumber) × Searched (paritySystem n m (now targets)) 0 0 0 (at (now numbers)) (at (now stack)) (at (now starts)) (at (now waiting)) (at (now next)) (at (now outs)) × (root < n) × (at (now numbers) root ≡ 0) ⌝ }
+    ensures { λ _. ⌜ SearchSays (paritySystem n m (now (targets .entry))) root (now (numbers .entry)) (now (numbers .exit)) (now (stack .exit)) (now (starts .exit)) (now (waiting .exit)) (now (next .exit)) (now (outs .entry)) (now (outs .exit)) ⌝ }
+{
+    enter(root, 0, 0, 0, numbers, stack, starts, waiting);
+    let mut count = 1;
+    let mut parts = 1;
+    let mut left = 1;
+    // `Searched`: the open states in their parts, the letters read, the components found
+    while 0 < count {
+        let heights = turn(
+            n,
+            m,
+            targets,
+            count,
+            parts,
+            left,
+            numbers,
+            stack,
+            starts,
+            waiting,
+            next,
+            outs,
+        );
+        count = heights.open;
+        parts = heights.parts;
+        left = heights.waiting;
+    }
+}
+
+// Searches from a state, unless it is met already.
+fn visit(
+    n: usize,
+    m: usize,
+    targets: &[u16],
+    root: usize,
+    numbers: &mut [u16],
+    stack: &mut [u16],
+    starts: &mut [u16],
+    waiting: &mut [u16],
+    next: &mut [u16],
+    outs: &mut [u16],
+)
+    requires { ⌜ Room (paritySystem n m (now targets)) (now targets) (now numbers) (now stack) (now starts) (now waiting) (now next) (now outs) × (m < doneNumber) × Searched (paritySystem n m (now targets)) 0 0 0 (at (now numbers)) (at (now stack)) (at (now starts)) (at (now waiting)) (at (now next)) (at (now outs)) × (root < n) ⌝ }
+    ensures { λ _. ⌜ SearchSays (paritySystem n m (now (targets .entry))) root (now (numbers .entry)) (now (numbers .exit)) (now (stack .exit)) (now (starts .exit)) (now (waiting .exit)) (now (next .exit)) (now (outs .entry)) (now (outs .exit)) ⌝ }
+{
+    if numbers[root] != 0 {
+        return;
+    }
+    search(
+        n,
+        m,
+        targets,
+        root,
+        numbers,
+        stack,
+        starts,
+        waiting,
+        next,
+        outs,
+    );
+}
+
+// Searches from every state that is not yet met.
+pub(crate) fn search_all(
+    n: usize,
+    m: usize,
+    targets: &[u16],
+    numbers: &mut [u16],
+    stack: &mut [u16],
+    starts: &mut [u16],
+    waiting: &mut [u16],
+    next: &mut [u16],
+    outs: &mut [u16],
+)
+    requires { ⌜ Room (paritySystem n m (now targets)) (now targets) (now numbers) (now stack) (now starts) (now waiting) (now next) (now outs) × (m < doneNumber) × ((q : ℕ) → q < n → at (now numbers) q ≡ 0) × ((q : ℕ) → q < n → at (now next) q ≡ 0) ⌝ }
+    ensures { λ _. ⌜ now (outs .exit) ≡ over (tabulate n 0 (componentOf (paritySystem n m (now (targets .entry))))) (now (outs .entry)) ⌝ }
+{
+    let mut q = 0;
+    // no state is open, and the states below q have their component
+    while q < n {
+        visit(
+            n,
+            m,
+            targets,
+            q,
+            numbers,
+            stack,
+            starts,
+            waiting,
+            next,
+            outs,
+        );
+        q += 1;
+    }
+}
