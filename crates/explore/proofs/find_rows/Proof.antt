@@ -12,9 +12,6 @@ use Rattle.explore.proofs.find_rows.Tie as tie
 fit : (c : tie.Else1) → let a = c .before .before .before .before .before .before .args in isUnfit (a .task) (a .cells .now) (a .capacity) (length (a .keys .now)) (length (a .targets .now)) (length (a .priorities .now)) ≡ false
 fit c = sym (c .before .is-unfit .ensures) ∙ c .if1 .left
 
-returns : tie.Need-returns
-returns c = answer-unfit _ _ _ _ _ _ (sym (c .before .is-unfit .ensures) ∙ c .if1 .taken)
-
 returns-2 : tie.Need-returns-2
 returns-2 c = answer-full _ _ _ _ _ _ (fit (c .before .before .before .before .before .before .before .before .before .before .before)) _ _ _ _ (c .before .before .before .before .before .before .before .explore .ensures) (c .if2 .taken)
 
@@ -24,5 +21,6 @@ returns-3 c = answer-rows _ _ _ _ _ _ (fit (c .before .before .before .before .b
 pub find-rows-spec : {M : Type 1} → statement M
 find-rows-spec =
     tie.close
-    (tie.spec (λ c κs. search needs) returns (λ c κs. fit-sizes _ _ _ _ _ _ (fit (c .before .before .before))) (λ c. search needs) (λ c. search needs)
-    (λ c. search needs) returns-2 (λ c. search needs) (λ c. search needs) (λ c. search needs) returns-3)
+    (tie.spec (λ c κs. search needs) (λ c. answer-unfit _ _ _ _ _ _ (sym (c .before .is-unfit .ensures) ∙ c .if1 .taken))
+    (λ c κs. fit-sizes _ _ _ _ _ _ (fit (c .before .before .before))) (λ c. search needs) (λ c. search needs) (λ c. search needs) returns-2
+    (λ c. search needs) (λ c. search needs) (λ c. search needs) returns-3)

@@ -105,31 +105,7 @@ returns-8 c = rw (c .before .if6 .left, c .if7 .left) at (judged (c .before .bef
 pub check-table-spec : {M : Type 1} → statement M
 check-table-spec =
     tie.close
-    (tie.spec
-    returns
-    (λ c. search needs)
-    (λ c. search needs)
-    (λ c. search needs)
-    (λ c κs. search needs)
-    returns-2
-    cast-cells
-    cast-cells-2
-    mul-cells
-    mul-length
-    add-length
-    returns-3
-    returns-4
-    (λ c. search needs)
-    returns-5
-    (λ c. search needs)
-    (λ c. search needs)
-    (λ c. search needs)
-    (λ c. search needs)
-    (λ c κs. search needs)
-    (λ c. search needs)
-    (λ c. search needs)
-    (λ c. search needs)
-    marks-fault-requires
-    returns-6
-    returns-7
+    (tie.spec returns (λ c. search needs) (λ c. search needs) (λ c. search needs) (λ c κs. search needs) returns-2 cast-cells cast-cells-2 mul-cells
+    mul-length add-length returns-3 returns-4 (λ c. search needs) returns-5 (λ c. search needs) (λ c. search needs) (λ c. search needs)
+    (λ c. search needs) (λ c κs. search needs) (λ c. search needs) (λ c. search needs) (λ c. search needs) marks-fault-requires returns-6 returns-7
     returns-8)

@@ -85,25 +85,9 @@ returns-3 c =
 pub find-components-spec : {M : Type 1} → statement M
 find-components-spec =
     tie.close
-    (tie.spec
-    (λ c κs. search needs)
-    returns
-    (λ c. omega (arith, known (c .before)))
-    (λ c. omega (arith, known (c .before)))
-    returns-2
-    (λ c. omega (arith, known (c .before .before .before)))
-    (λ c. omega (arith, known (c .before .before .before)))
-    (λ c. omega (arith, known (c .before .before .before)))
-    (λ c. omega (arith, known (c .before .before .before)))
-    (λ c. omega (arith, known (c .before .before .before)))
-    (λ c. omega (arith, known (c .before .before .before)))
-    (λ c. omega (arith, known (c .before .before .before)))
-    (λ c. search needs)
-    lay-targets-requires
-    (λ c. search needs)
-    (λ c. search needs)
-    find-homes-requires
-    (λ c. search needs)
-    narrow-requires
-    (λ c. search needs)
-    returns-3)
+    (tie.spec (λ c κs. search needs) returns (λ c. omega (arith, known (c .before))) (λ c. omega (arith, known (c .before))) returns-2
+    (λ c. omega (arith, known (c .before .before .before))) (λ c. omega (arith, known (c .before .before .before)))
+    (λ c. omega (arith, known (c .before .before .before))) (λ c. omega (arith, known (c .before .before .before)))
+    (λ c. omega (arith, known (c .before .before .before))) (λ c. omega (arith, known (c .before .before .before)))
+    (λ c. omega (arith, known (c .before .before .before))) (λ c. search needs) lay-targets-requires (λ c. search needs) (λ c. search needs)
+    find-homes-requires (λ c. search needs) narrow-requires (λ c. search needs) returns-3)

@@ -88,29 +88,9 @@ returns-3 c =
 pub lay-table-spec : {M : Type 1} → statement M
 lay-table-spec =
     tie.close
-    (tie.spec
-    (λ c κs. search needs)
-    (λ c κs. search needs)
-    returns
-    (λ c. omega (arith, known (c .before)))
-    (λ c. omega (arith, known (c .before)))
-    (λ c. omega (arith, known (c .before .before)))
-    (λ c. omega (arith, known (c .before .before)))
-    (λ c. omega (arith, known (c .before .before)))
-    (λ c κs. search needs)
-    returns-2
-    (λ c. omega (arith, known (c .before .before .before)))
-    (λ c. omega (arith, known (c .before .before .before)))
-    (λ c. omega (arith, known (c .before .before .before)))
-    (λ c. omega (arith, known (c .before .before .before)))
-    lay-targets-requires
-    sub-lay-marks
-    part-lay-marks-start
-    part-lay-marks-end
-    lay-marks-requires
-    shared-slice-read-t10
-    shared-slice-read-t29
-    cast-t13
-    (λ c. search needs)
-    (λ c. search needs)
-    returns-3)
+    (tie.spec (λ c κs. search needs) (λ c κs. search needs) returns (λ c. omega (arith, known (c .before))) (λ c. omega (arith, known (c .before)))
+    (λ c. omega (arith, known (c .before .before))) (λ c. omega (arith, known (c .before .before))) (λ c. omega (arith, known (c .before .before)))
+    (λ c κs. search needs) returns-2 (λ c. omega (arith, known (c .before .before .before))) (λ c. omega (arith, known (c .before .before .before)))
+    (λ c. omega (arith, known (c .before .before .before))) (λ c. omega (arith, known (c .before .before .before))) lay-targets-requires sub-lay-marks
+    part-lay-marks-start part-lay-marks-end lay-marks-requires shared-slice-read-t10 shared-slice-read-t29 cast-t13 (λ c. search needs)
+    (λ c. search needs) returns-3)

@@ -39,11 +39,4 @@ returns-2 c = record { answer = sym (not-false _ (c .before .before .before .bef
 pub survey-cells-spec : {M : Type 1} → statement M
 survey-cells-spec =
     tie.close
-    (tie.spec
-    (λ c κs. search needs)
-    returns
-    find-homes-requires
-    write-counted-requires
-    (λ c. search needs)
-    (λ c. search needs)
-    returns-2)
+    (tie.spec (λ c κs. search needs) returns find-homes-requires write-counted-requires (λ c. search needs) (λ c. search needs) returns-2)

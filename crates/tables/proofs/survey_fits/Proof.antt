@@ -38,11 +38,4 @@ returns-2 c =
     rw (le-leb (a .states) maxStates (l .0), le-leb (a .letters) maxLetters (l .1))
 
 pub survey-fits-spec : {M : Type 1} → statement M
-survey-fits-spec =
-    tie.close
-    (tie.spec
-    (λ c. search needs)
-    (λ c. search needs)
-    returns
-    mul-cells
-    returns-2)
+survey-fits-spec = tie.close (tie.spec (λ c. search needs) (λ c. search needs) returns mul-cells returns-2)

@@ -122,23 +122,6 @@ returns-3 c =
 pub translate-table-spec : {M : Type 1} → statement M
 translate-table-spec =
     tie.close
-    (tie.spec
-    (λ c. search needs)
-    (λ c. search needs)
-    (λ c κs. search needs)
-    returns
-    (λ c κs. search needs)
-    returns-2
-    (λ c. search needs)
-    (λ c. search needs)
-    explore-table-requires
-    (λ c κs. search needs)
-    unpack-requires
-    (λ c. search needs)
-    clear-rows-requires
-    (λ c κs. search needs)
-    (λ c. search needs)
-    (λ c. search needs)
-    (λ c. search needs)
-    (λ c. search needs)
-    returns-3)
+    (tie.spec (λ c. search needs) (λ c. search needs) (λ c κs. search needs) returns (λ c κs. search needs) returns-2 (λ c. search needs)
+    (λ c. search needs) explore-table-requires (λ c κs. search needs) unpack-requires (λ c. search needs) clear-rows-requires (λ c κs. search needs)
+    (λ c. search needs) (λ c. search needs) (λ c. search needs) (λ c. search needs) returns-3)

@@ -22,11 +22,8 @@ loop-again c =
     let i = c .before .before .before .loop in
     (omega arith, rw (c .strays .ensures) (any-turn (strays _) (i .found) _ (i .i) (c .before .before .loop-test .taken)) ∙ i .inv .1)
 
-returns : tie.Need-returns Inv-loop μ-loop
-returns c = any-end _ _ _ _ (c .loop-test .left) (c .before .loop .inv .1)
-
 pub any-strays-spec : {M : Type 1} → statement M
 any-strays-spec =
     tie.close
     (tie.spec Inv-loop μ-loop (λ c. (search needs, refl)) (λ c. search needs) (λ c. search needs) (λ c κs. search needs) (λ c. search needs)
-    (λ c. search needs) loop-again returns)
+    (λ c. search needs) loop-again (λ c. any-end _ _ _ _ (c .loop-test .left) (c .before .loop .inv .1)))

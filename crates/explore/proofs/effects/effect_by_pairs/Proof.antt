@@ -15,9 +15,6 @@ small c =
     let s = c .before .args in
     rw (c .moved .ensures) (moved-small (isMarked (s .marks % 256)) (places (s .memory)) 6 (places-below 6 (s .memory)) (omega (arith, places-length 6 (s .memory))))
 
-add-result : tie.Need-add-result
-add-result c = omega (arith, small (c .before .before), c .before .priority .ok)
-
 returns : tie.Need-returns
 unfolding effectBy
 returns c = record { is = rw (c .before .before .moved .ensures, c .before .priority .ensures); small = omega (arith, small (c .before .before), c .before .priority .ok) }
@@ -25,5 +22,5 @@ returns c = record { is = rw (c .before .before .moved .ensures, c .before .prio
 pub effect-by-pairs-spec : {M : Type 1} → statement M
 effect-by-pairs-spec =
     tie.close
-    (tie.spec (λ c. search needs) (λ c. search needs) (λ c κs. search needs) (λ c κs. search needs) (λ c. search needs) (λ c. search needs) add-result
-    returns)
+    (tie.spec (λ c. search needs) (λ c. search needs) (λ c κs. search needs) (λ c κs. search needs) (λ c. search needs) (λ c. search needs)
+    (λ c. omega (arith, small (c .before .before), c .before .priority .ok)) returns)

@@ -12,12 +12,6 @@ use Rattle.explore.proofs.effects.write_effects.Tie as tie
 letters-few : (c : tie.After-stride-of) → let s = c .before .before .before .args in (s .m - 1) * c .stride-of .result ≤ (s .m - 1) * 1
 letters-few c = mul-le-mul {n₂ = c .before .before .before .args .m - 1} (omega arith) (c .stride-of .ensures .most)
 
-mul-n : tie.Need-mul-n
-mul-n c = omega (arith, letters-few (c), c .before .before .before .pre)
-
-add-n : tie.Need-add-n
-add-n c = omega (arith, letters-few (c), c .before .before .before .pre)
-
 write-by-pairs-requires : tie.Need-write-by-pairs-requires
 write-by-pairs-requires c κs =
     let s = c .before .before .before .before in
@@ -31,4 +25,7 @@ returns c =
     rw (only-pairs (u .rule)) (effects-all _ (u .memory) (u .first) (u .m) _ _ (u .cells .now) _ (s .pre .2) refl (c .before .before .before .before .stride-of .ensures) (c .before .before .write-by-pairs .ensures))
 
 pub write-effects-spec : {M : Type 1} → statement M
-write-effects-spec = tie.close (tie.spec (λ c κs. search needs) (λ c. search needs) mul-n add-n write-by-pairs-requires (λ c. search needs) returns)
+write-effects-spec =
+    tie.close
+    (tie.spec (λ c κs. search needs) (λ c. search needs) (λ c. omega (arith, letters-few (c), c .before .before .before .pre))
+    (λ c. omega (arith, letters-few (c), c .before .before .before .pre)) write-by-pairs-requires (λ c. search needs) returns)

@@ -18,9 +18,6 @@ Inv-loop n keys heads₀ links₀ i₀ heads links i =
 abbrev μ-loop : tie.MeasureT-loop
 μ-loop n keys heads₀ links₀ i₀ heads links i = n - i
 
-loop-holds : tie.Need-loop-holds Inv-loop μ-loop
-loop-holds c = (omega arith, indexed-none _ _ _ _ (c .before .before .before .pre .4), refl, refl)
-
 index-key-requires : tie.Need-index-key-requires Inv-loop μ-loop
 index-key-requires c κs =
     let i = c .before .before .before .before .loop in
@@ -42,5 +39,6 @@ returns c =
 pub index-keys-spec : {M : Type 1} → statement M
 index-keys-spec =
     tie.close
-    (tie.spec Inv-loop μ-loop loop-holds (λ c. search needs) (λ c. search needs) index-key-requires (λ c. search needs) (λ c. search needs) loop-again
-    (λ c. c .before .loop .inv .2) (λ c. c .before .loop .inv .3) returns)
+    (tie.spec Inv-loop μ-loop (λ c. (omega arith, indexed-none _ _ _ _ (c .before .before .before .pre .4), refl, refl)) (λ c. search needs)
+    (λ c. search needs) index-key-requires (λ c. search needs) (λ c. search needs) loop-again (λ c. c .before .loop .inv .2)
+    (λ c. c .before .loop .inv .3) returns)

@@ -58,9 +58,6 @@ cast-first c =
     let s = c .before .before .before .before .before .before .before in
     omega (arith, s .pre .2 .fits (s .args .i) (s .pre .1), div-le-self (length (s .args .cells .now)) (m s))
 
-mul-first : tie.Need-mul-first Inv-loop μ-loop
-mul-first c = omega (arith, row-cells (c .before .before .before .before .before .before .before))
-
 write-effects-requires : tie.Need-write-effects-requires Inv-loop μ-loop
 write-effects-requires c κs =
     let s = c .before .before .before .before .before .before .before .before in
@@ -125,7 +122,8 @@ returns c =
 pub read-row-spec : {M : Type 1} → statement M
 read-row-spec =
     tie.close
-    (tie.spec Inv-loop μ-loop (λ c. search needs) (λ c. search needs) cast-first mul-first (λ c. search needs) write-effects-requires loop-holds
+    (tie.spec Inv-loop μ-loop (λ c. search needs) (λ c. search needs) cast-first
+    (λ c. omega (arith, row-cells (c .before .before .before .before .before .before .before))) (λ c. search needs) write-effects-requires loop-holds
     add-read-cell mul-read-cell shared-slice-read-read-cell mul-read-cell-2 mul-read-cell-3 array-read-read-cell mul-read-cell-4 add-read-cell-2
     read-cell-requires add-a loop-less loop-again (λ c. c .before .before .loop .inv .0 .key-rest .size) (λ c. c .before .before .loop .inv .1)
     (λ c. c .before .before .loop .inv .2) (λ c. c .before .before .loop .inv .0 .target-rest .size)

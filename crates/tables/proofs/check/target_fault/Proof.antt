@@ -28,14 +28,4 @@ returns : tie.Need-returns Inv-loop μ-loop
 returns c = any-end _ _ _ _ (c .loop-test .left) (c .before .loop .inv .1)
 
 pub target-fault-spec : {M : Type 1} → statement M
-target-fault-spec =
-    tie.close
-    (tie.spec
-    Inv-loop
-    μ-loop
-    loop-holds
-    (λ c. omega arith)
-    (λ c. omega arith)
-    (λ c. omega arith)
-    loop-again
-    returns)
+target-fault-spec = tie.close (tie.spec Inv-loop μ-loop loop-holds (λ c. omega arith) (λ c. omega arith) (λ c. omega arith) loop-again returns)

@@ -31,16 +31,6 @@ returns c =
 pub narrow-spec : {M : Type 1} → statement M
 narrow-spec =
     tie.close
-    (tie.spec
-    Inv-loop
-    μ-loop
-    (λ c. (omega arith, filled-none _ _))
-    (λ c. search needs)
-    (λ c. search needs)
-    cast-out
-    (λ c. omega (arith, c .before .before .loop .inv .1 .size))
-    (λ c. search needs)
-    (λ c. search needs)
-    loop-again
-    (λ c. c .before .loop .inv .1 .size)
-    returns)
+    (tie.spec Inv-loop μ-loop (λ c. (omega arith, filled-none _ _)) (λ c. search needs) (λ c. search needs) cast-out
+    (λ c. omega (arith, c .before .before .loop .inv .1 .size)) (λ c. search needs) (λ c. search needs) loop-again
+    (λ c. c .before .loop .inv .1 .size) returns)

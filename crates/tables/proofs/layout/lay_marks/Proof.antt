@@ -32,20 +32,6 @@ returns c =
 pub lay-marks-spec : {M : Type 1} → statement M
 lay-marks-spec =
     tie.close
-    (tie.spec
-    Inv-loop
-    μ-loop
-    (λ c. (omega arith, filled-none _ _))
-    (λ c. search needs)
-    (λ c. search needs)
-    (λ c. search needs)
-    (λ c. search needs)
-    (λ c. search needs)
-    (λ c κs. search needs)
-    (λ c. search needs)
-    slice-write-marks
-    (λ c. search needs)
-    (λ c. search needs)
-    loop-again
-    (λ c. c .before .loop .inv .1 .size)
-    returns)
+    (tie.spec Inv-loop μ-loop (λ c. (omega arith, filled-none _ _)) (λ c. search needs) (λ c. search needs) (λ c. search needs) (λ c. search needs)
+    (λ c. search needs) (λ c κs. search needs) (λ c. search needs) slice-write-marks (λ c. search needs) (λ c. search needs) loop-again
+    (λ c. c .before .loop .inv .1 .size) returns)

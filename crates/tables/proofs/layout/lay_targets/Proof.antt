@@ -29,16 +29,6 @@ returns c =
 pub lay-targets-spec : {M : Type 1} → statement M
 lay-targets-spec =
     tie.close
-    (tie.spec
-    Inv-loop
-    μ-loop
-    (λ c. (omega arith, filled-none _ _))
-    (λ c. search needs)
-    (λ c κs. search needs)
-    (λ c. search needs)
-    (λ c. omega (arith, c .before .before .before .loop .inv .1 .size))
-    (λ c. search needs)
-    (λ c. search needs)
-    loop-again
-    (λ c. c .before .loop .inv .1 .size)
-    returns)
+    (tie.spec Inv-loop μ-loop (λ c. (omega arith, filled-none _ _)) (λ c. search needs) (λ c κs. search needs) (λ c. search needs)
+    (λ c. omega (arith, c .before .before .before .loop .inv .1 .size)) (λ c. search needs) (λ c. search needs) loop-again
+    (λ c. c .before .loop .inv .1 .size) returns)

@@ -8,8 +8,4 @@ returns : tie.Need-returns
 returns c = rw (eq-eqb (c .before .args .target) noState (c .if1 .taken))
 
 pub wide-target-spec : {M : Type 1} → statement M
-wide-target-spec =
-    tie.close
-    (tie.spec
-    returns
-    (λ c. rw (ne-eqb (c .before .args .target) noState (c .if1 .left))))
+wide-target-spec = tie.close (tie.spec returns (λ c. rw (ne-eqb (c .before .args .target) noState (c .if1 .left))))

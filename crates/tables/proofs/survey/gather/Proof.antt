@@ -70,18 +70,5 @@ returns c =
 pub gather-spec : {M : Type 1} → statement M
 gather-spec =
     tie.close
-    (tie.spec
-    Inv-loop
-    μ-loop
-    loop-holds
-    mul-home
-    shared-slice-read-home
-    cast-home
-    slice-read-sets
-    met-pairs-requires
-    slice-write-sets
-    add-q
-    (λ c. search needs)
-    loop-again
-    (λ c. c .before .loop .inv .1)
-    returns)
+    (tie.spec Inv-loop μ-loop loop-holds mul-home shared-slice-read-home cast-home slice-read-sets met-pairs-requires slice-write-sets add-q
+    (λ c. search needs) loop-again (λ c. c .before .loop .inv .1) returns)

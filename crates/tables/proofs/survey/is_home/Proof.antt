@@ -11,10 +11,4 @@ returns-2 : tie.Need-returns-2
 returns-2 c = rw (le-ltb (c .before .args .target) (c .before .args .n) (c .if1 .left))
 
 pub is-home-spec : {M : Type 1} → statement M
-is-home-spec =
-    tie.close
-    (tie.spec
-    (λ c. search needs)
-    (λ c. search needs)
-    returns
-    returns-2)
+is-home-spec = tie.close (tie.spec (λ c. search needs) (λ c. search needs) returns returns-2)

@@ -80,22 +80,6 @@ returns c =
 pub met-pairs-spec : {M : Type 1} → statement M
 met-pairs-spec =
     tie.close
-    (tie.spec
-    Inv-loop
-    μ-loop
-    mul-first
-    (λ c. search needs)
-    shared-slice-read-home
-    (λ c. (omega arith, bit-none))
-    add-is-home
-    mul-is-home
-    shared-slice-read-is-home
-    is-home-requires
-    add-kept
-    mul-kept
-    shared-slice-read-kept
-    (λ c κs. search needs)
-    (λ c. search needs)
-    (λ c. search needs)
-    loop-again
-    returns)
+    (tie.spec Inv-loop μ-loop mul-first (λ c. search needs) shared-slice-read-home (λ c. (omega arith, bit-none)) add-is-home mul-is-home
+    shared-slice-read-is-home is-home-requires add-kept mul-kept shared-slice-read-kept (λ c κs. search needs) (λ c. search needs) (λ c. search needs)
+    loop-again returns)

@@ -38,12 +38,4 @@ returns c =
     c .before .before .spread .ensures ∙ ap (λ (xs : List ℕ). over xs (s .args .out .now)) same
 
 pub write-counted-spec : {M : Type 1} → statement M
-write-counted-spec =
-    tie.close
-    (tie.spec
-    (λ c. search needs)
-    gather-requires
-    (λ c. search needs)
-    spread-requires
-    (λ c. search needs)
-    returns)
+write-counted-spec = tie.close (tie.spec (λ c. search needs) gather-requires (λ c. search needs) spread-requires (λ c. search needs) returns)

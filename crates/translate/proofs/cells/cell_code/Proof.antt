@@ -14,22 +14,10 @@ cut-fits c =
     let l = c .before .before .if1 .left in
     (omega (arith, and-le-r (a .marks % 256) (a .counted)), omega (arith, and-le-r (a .marks / 256) (a .counted)), omega (arith, c .before .before .before .pre .0))
 
-returns : tie.Need-returns
-returns c = rw (le-leb (c .before .args .n) (c .before .args .target) (c .if1 .taken))
-
-shared-slice-read-if2 : tie.Need-shared-slice-read-if2
-shared-slice-read-if2 c = omega (arith, c .before .if1 .left, c .before .before .pre .1)
-
 returns-2 : tie.Need-returns-2
 returns-2 c =
     let a = c .before .before .before .args in
     rw (lt-leb (a .n) (a .target) (c .before .before .if1 .left), eq-eqb (getD (a .homes .now) (a .target) 0) (a .home) (c .if2 .taken))
-
-mul-result-3 : tie.Need-mul-result-3
-mul-result-3 c = omega (arith, c .before .before .if1 .left, c .before .before .before .pre .0)
-
-shared-slice-read-result : tie.Need-shared-slice-read-result
-shared-slice-read-result c = omega (arith, c .before .before .before .if1 .left, c .before .before .before .before .pre .2)
 
 add-result-4 : tie.Need-add-result-4
 add-result-4 c = omega (arith, c .before .before .before .before .pre .3 (c .before .before .before .before .args .target) (c .before .before .before .if1 .left))
@@ -42,21 +30,9 @@ returns-3 c =
 pub cell-code-spec : {M : Type 1} → statement M
 cell-code-spec =
     tie.close
-    (tie.spec
-    returns
-    (λ c. omega (arith, c .if1 .left, c .before .pre .0))
-    shared-slice-read-if2
-    (λ c. search needs)
-    (λ c. search needs)
-    (λ c. omega (arith, cut-fits (c)))
-    (λ c. omega (arith, cut-fits (c)))
-    (λ c. omega (arith, cut-fits (c)))
-    (λ c. omega (arith, cut-fits (c)))
-    (λ c. omega (arith, cut-fits (c)))
-    (λ c. omega (arith, cut-fits (c)))
-    (λ c. omega (arith, cut-fits (c)))
-    returns-2
-    mul-result-3
-    shared-slice-read-result
-    add-result-4
-    returns-3)
+    (tie.spec (λ c. rw (le-leb (c .before .args .n) (c .before .args .target) (c .if1 .taken))) (λ c. omega (arith, c .if1 .left, c .before .pre .0))
+    (λ c. omega (arith, c .before .if1 .left, c .before .before .pre .1)) (λ c. search needs) (λ c. search needs) (λ c. omega (arith, cut-fits (c)))
+    (λ c. omega (arith, cut-fits (c))) (λ c. omega (arith, cut-fits (c))) (λ c. omega (arith, cut-fits (c))) (λ c. omega (arith, cut-fits (c)))
+    (λ c. omega (arith, cut-fits (c))) (λ c. omega (arith, cut-fits (c))) returns-2
+    (λ c. omega (arith, c .before .before .if1 .left, c .before .before .before .pre .0))
+    (λ c. omega (arith, c .before .before .before .if1 .left, c .before .before .before .before .pre .2)) add-result-4 returns-3)

@@ -43,13 +43,4 @@ returns c =
 pub write-codes-spec : {M : Type 1} → statement M
 write-codes-spec =
     tie.close
-    (tie.spec
-    Inv-loop
-    μ-loop
-    loop-holds
-    write-row-requires
-    add-q
-    (λ c. search needs)
-    loop-again
-    (λ c. c .before .loop .inv .2)
-    returns)
+    (tie.spec Inv-loop μ-loop loop-holds write-row-requires add-q (λ c. search needs) loop-again (λ c. c .before .loop .inv .2) returns)

@@ -28,9 +28,6 @@ module _ (c : tie.After-rising Inv-loop μ-loop) where
       let l = c .before .before .loop-test .taken in
       (omega (arith, c .rising .ensures, s .pre .3 q l), omega (arith, s .pre .0))
 
-slice-write-entries : tie.Need-slice-write-entries Inv-loop μ-loop
-slice-write-entries c = omega (arith, c .before .before .before .before .loop .inv .1 .size)
-
 loop-again : tie.Need-loop-again Inv-loop μ-loop
 loop-again c =
     let i = c .before .before .before .before .loop in
@@ -45,19 +42,7 @@ returns c =
 pub write-entries-spec : {M : Type 1} → statement M
 write-entries-spec =
     tie.close
-    (tie.spec
-    Inv-loop
-    μ-loop
-    (λ c. (omega arith, filled-none _ _))
-    (λ c. search needs)
-    (λ c κs. search needs)
-    (λ c. omega (arith, small (c)))
-    (λ c. omega (arith, small (c)))
-    (λ c. omega (arith, small (c .before)))
-    (λ c. omega (arith, small (c .before)))
-    slice-write-entries
-    (λ c. omega (arith, small (c .before)))
-    (λ c. search needs)
-    loop-again
-    (λ c. c .before .loop .inv .1 .size)
-    returns)
+    (tie.spec Inv-loop μ-loop (λ c. (omega arith, filled-none _ _)) (λ c. search needs) (λ c κs. search needs) (λ c. omega (arith, small (c)))
+    (λ c. omega (arith, small (c))) (λ c. omega (arith, small (c .before))) (λ c. omega (arith, small (c .before)))
+    (λ c. omega (arith, c .before .before .before .before .loop .inv .1 .size)) (λ c. omega (arith, small (c .before))) (λ c. search needs) loop-again
+    (λ c. c .before .loop .inv .1 .size) returns)

@@ -71,26 +71,8 @@ returns c =
 pub write-row-spec : {M : Type 1} → statement M
 write-row-spec =
     tie.close
-    (tie.spec
-    Inv-loop
-    μ-loop
-    mul-home
-    shared-slice-read-home
-    shared-slice-read-pairs
-    mul-first
-    loop-holds
-    (λ c. omega (arith, placed (c)))
-    (λ c. omega (arith, placed (c)))
-    (λ c. omega (arith, placed (c .before)))
-    (λ c. omega (arith, placed (c .before)))
-    (λ c. omega (arith, placed (c .before)))
-    (λ c. omega (arith, placed (c .before .before)))
-    cell-code-requires
-    (λ c. omega (arith, placed (c .before .before .before)))
-    (λ c. omega (arith, placed (c .before .before .before)))
-    slice-write-cells
-    (λ c. omega (arith, placed (c .before .before .before)))
-    (λ c. search needs)
-    loop-again
-    (λ c. c .before .loop .inv .2)
-    returns)
+    (tie.spec Inv-loop μ-loop mul-home shared-slice-read-home shared-slice-read-pairs mul-first loop-holds (λ c. omega (arith, placed (c)))
+    (λ c. omega (arith, placed (c))) (λ c. omega (arith, placed (c .before))) (λ c. omega (arith, placed (c .before)))
+    (λ c. omega (arith, placed (c .before))) (λ c. omega (arith, placed (c .before .before))) cell-code-requires
+    (λ c. omega (arith, placed (c .before .before .before))) (λ c. omega (arith, placed (c .before .before .before))) slice-write-cells
+    (λ c. omega (arith, placed (c .before .before .before))) (λ c. search needs) loop-again (λ c. c .before .loop .inv .2) returns)

@@ -13,20 +13,11 @@ Inv-loop array₀ from to i₀ array i = (from ≤ i) × (i ≤ to) × Cleared f
 abbrev μ-loop : tie.MeasureT-loop
 μ-loop array₀ from to i₀ array i = to - i
 
-loop-holds : tie.Need-loop-holds Inv-loop μ-loop
-loop-holds c = (le-refl (c .args .from), c .pre .0, cleared-none (c .args .from) (c .args .array .now))
-
-slice-write-array : tie.Need-slice-write-array Inv-loop μ-loop
-slice-write-array c = omega (arith, c .before .loop .inv .2 .size, c .before .before .pre .1)
-
 loop-again : tie.Need-loop-again Inv-loop μ-loop
 loop-again c =
     let i = c .before .loop in
     let f = i .inv .2 in
     (omega arith, omega arith, cleared-more (c .before .before .args .from) (i .i) (c .before .before .args .array .now) (i .array) (i .inv .0) (omega (arith, c .before .before .pre .1)) f)
-
-same-length : tie.Need-same-length Inv-loop μ-loop
-same-length c = c .before .loop .inv .2 .size
 
 returns : tie.Need-returns Inv-loop μ-loop
 returns c = let i = c .before .loop in rw (le-antisymm (i .inv .1) (c .loop-test .left)) at (i .inv .2)
@@ -34,4 +25,6 @@ returns c = let i = c .before .loop in rw (le-antisymm (i .inv .1) (c .loop-test
 pub clear-u16-spec : {M : Type 1} → statement M
 clear-u16-spec =
     tie.close
-    (tie.spec Inv-loop μ-loop loop-holds (λ c. omega arith) slice-write-array (λ c. omega arith) (λ c. omega arith) loop-again same-length returns)
+    (tie.spec Inv-loop μ-loop (λ c. (le-refl (c .args .from), c .pre .0, cleared-none (c .args .from) (c .args .array .now))) (λ c. omega arith)
+    (λ c. omega (arith, c .before .loop .inv .2 .size, c .before .before .pre .1)) (λ c. omega arith) (λ c. omega arith) loop-again
+    (λ c. c .before .loop .inv .2 .size) returns)

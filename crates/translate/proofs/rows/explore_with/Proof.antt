@@ -83,26 +83,7 @@ returns c =
 pub explore-with-spec : {M : Type 1} → statement M
 explore-with-spec =
     tie.close
-    (tie.spec
-    (λ c. search needs)
-    (λ c. search needs)
-    (λ c. search needs)
-    (λ c κs. search needs)
-    (λ c. search needs)
-    (λ c. search needs)
-    write-entries-requires
-    (λ c. search needs)
-    (λ c. search needs)
-    (λ c. search needs)
-    write-codes-requires
-    mul-used
-    mul-start
-    array-read-start
-    (λ c. search needs)
-    slice-aggregate-find-rows
-    (λ c κs. search needs)
-    (λ c. search needs)
-    (λ c. search needs)
-    (λ c. search needs)
-    (λ c. search needs)
-    returns)
+    (tie.spec (λ c. search needs) (λ c. search needs) (λ c. search needs) (λ c κs. search needs) (λ c. search needs) (λ c. search needs)
+    write-entries-requires (λ c. search needs) (λ c. search needs) (λ c. search needs) write-codes-requires mul-used mul-start array-read-start
+    (λ c. search needs) slice-aggregate-find-rows (λ c κs. search needs) (λ c. search needs) (λ c. search needs) (λ c. search needs)
+    (λ c. search needs) returns)

@@ -26,15 +26,6 @@ module _ (c : tie.In-loop Inv-loop μ-loop) where
   small : sourceIn (getD (c .before .loop .keys) (c .before .loop .i) 0) < 256
   small = rw (c .before .loop .inv .0 .key-rest .same (c .before .loop .i) (omega arith)) (s .pre .3 (c .before .loop .i) (here .2))
 
-mul-key : tie.Need-mul-key Inv-loop μ-loop
-mul-key c = omega (arith, here (c), c .before .before .before .before .pre .0)
-
-mul-keys : tie.Need-mul-keys Inv-loop μ-loop
-mul-keys c = omega (arith, here (c .before .before), c .before .before .before .before .before .before .pre .0)
-
-add-i : tie.Need-add-i Inv-loop μ-loop
-add-i c = omega (arith, here (c .before .before), c .before .before .before .before .before .before .pre .0)
-
 loop-again : tie.Need-loop-again Inv-loop μ-loop
 loop-again c =
     let s = c .before .before .before .before .before .before in
@@ -51,7 +42,10 @@ returns c =
 pub unpack-spec : {M : Type 1} → statement M
 unpack-spec =
     tie.close
-    (tie.spec Inv-loop μ-loop (λ c. (unpacked-none _ _, omega arith)) mul-key (λ c. omega (arith, here (c .before)))
-    (λ c. omega (arith, small (c .before))) (λ c. omega (arith, here (c .before))) (λ c κs. tt) mul-keys
-    (λ c. omega (arith, here (c .before .before))) add-i (λ c. omega (arith, here (c .before .before))) loop-again
-    (λ c. c .before .loop .inv .0 .key-rest .size) (λ c. c .before .loop .inv .0 .state-rest .size) returns)
+    (tie.spec Inv-loop μ-loop (λ c. (unpacked-none _ _, omega arith)) (λ c. omega (arith, here (c), c .before .before .before .before .pre .0))
+    (λ c. omega (arith, here (c .before))) (λ c. omega (arith, small (c .before))) (λ c. omega (arith, here (c .before))) (λ c κs. tt)
+    (λ c. omega (arith, here (c .before .before), c .before .before .before .before .before .before .pre .0))
+    (λ c. omega (arith, here (c .before .before)))
+    (λ c. omega (arith, here (c .before .before), c .before .before .before .before .before .before .pre .0))
+    (λ c. omega (arith, here (c .before .before))) loop-again (λ c. c .before .loop .inv .0 .key-rest .size)
+    (λ c. c .before .loop .inv .0 .state-rest .size) returns)
