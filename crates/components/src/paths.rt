@@ -3,7 +3,7 @@
 // component. It takes time linear in the cells: each letter is read once, each state is opened and settled once, and each part is joined or settled once.
 use crate::cells::target_at;
 ghost use mathlib.Core.Path.{_≡_};
-ghost use Prim.Native.Nat.{ℕ, suc, _+_, _*_, _-_, _<_, _≤_};
+ghost use Prim.Native.Nat.{ℕ, _+_, _*_, _-_, _<_, _≤_};
 ghost use lib.ListN.{length};
 ghost use Rattle.rules.specs.Basics.{tabulate};
 ghost use Rattle.rules.specs.Says.{over};
