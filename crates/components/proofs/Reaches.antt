@@ -14,12 +14,11 @@ use native.Mathlib.Omega.{arith}
 use lib.Dec.{eqb, ltb}
 use lib.ListN.{length, take, drop, set, length-append}
 use lib.Seq.{drop-cons, drop-length, drop-set-lt, getD-set-same, lt-length-set, take-set-le, take-take}
-use borrow.Author.Tests.{eqb-true, lt-ltb, ltb-true, ltb-false}
+use borrow.Author.Tests.{eqb-true, lt-ltb}
 use Rattle.rules.specs.Systems.{System, reaches, Path, here, step}
 use Rattle.rules.proofs.Bools.{by, clash}
 use Rattle.rules.proofs.Reach.{path-append, path-reaches, reaches-view}
 use Rattle.components.specs.Places.{at, Put}
-use Rattle.components.specs.Searching.{doneNumber, Places}
 use Rattle.components.specs.Reaches.{Came, Reached, ReachRoom}
 use Rattle.components.specs.Calls.{PathFound}
 use Rattle.components.proofs.Reaching.{kept-along}

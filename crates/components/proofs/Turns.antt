@@ -9,14 +9,13 @@
 use mathlib.Core.Path.{_≡_, refl, sym, ap, _∙_}
 use mathlib.Core.Bool.{true}
 use mathlib.Core.List.{List}
-use Prim.Native.Nat.{ℕ, suc, _+_, _*_, _-_, _<_, _≤_}
+use Prim.Native.Nat.{ℕ, suc, _+_, _-_, _<_, _≤_}
 use native.Mathlib.Numerals.{add-one}
 use native.Mathlib.Omega.{arith}
 use lib.ListN.{length, set}
-use Rattle.rules.specs.Basics.{occurs}
 use Rattle.rules.specs.Systems.{System, reaches, componentOf}
-use Rattle.components.specs.Places.{at, Put, Rising}
-use Rattle.components.specs.Searching.{doneNumber, Letters, Searched, Read, Scanned, Entered, Smallest, Settled, Room, TurnSays, work}
+use Rattle.components.specs.Places.{at, Put}
+use Rattle.components.specs.Searching.{doneNumber, Letters, Searched, Read, Scanned, Entered, Smallest, Settled, Room, TurnSays}
 use Rattle.components.proofs.Reaching.{reaches-trans, reaches-step}
 use Rattle.components.proofs.Stores.{put-set}
 use Rattle.components.proofs.Searches.{same-or, parts-few, waiting-few, back, starts-below, read-more, enter, leave, grown, settle}

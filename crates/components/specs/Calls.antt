@@ -9,7 +9,7 @@
 use mathlib.Core.Path.{_≡_}
 use mathlib.Core.Bool.{Bool, true, false, _&&_}
 use mathlib.Core.List.{List}
-use Prim.Native.Nat.{ℕ, _+_, _*_, _<_, _≤_}
+use Prim.Native.Nat.{ℕ, _*_, _<_, _≤_}
 use lib.Dec.{ltb, leb}
 use lib.ListN.{length, take, drop}
 use Rattle.rules.specs.Basics.{pick, tabulate}

@@ -3,7 +3,7 @@
 // component. It takes time linear in the cells: each letter is read once, each state is opened and settled once, and each part is joined or settled once.
 use crate::cells::target_at;
 ghost use mathlib.Core.Path.{_≡_};
-ghost use Prim.Native.Nat.{ℕ, suc, _+_, _*_, _-_, _<_, _≤_};
+ghost use Prim.Native.Nat.{ℕ, _+_, _*_, _-_, _<_, _≤_};
 ghost use lib.ListN.{length};
 ghost use Rattle.rules.specs.Basics.{tabulate};
 ghost use Rattle.rules.specs.Says.{over};
@@ -221,7 +221,7 @@ fn turn(
     }
 }
 
-// Searches from a state that is not yet met: everything that it reaches has its component.
+// Searches from a state, unless it is met already: everything that it reaches has its component.
 fn search(
     n: usize,
     m: usize,
@@ -234,9 +234,12 @@ fn search(
     next: &mut [u16],
     outs: &mut [u16],
 )
-    requires { ⌜ Room (paritySystem n m (now targets)) (now targets) (now numbers) (now stack) (now starts) (now waiting) (now next) (now outs) × (m < doneNumber) × Searched (paritySystem n m (now targets)) 0 0 0 (at (now numbers)) (at (now stack)) (at (now starts)) (at (now waiting)) (at (now next)) (at (now outs)) × (root < n) × (at (now numbers) root ≡ 0) ⌝ }
+    requires { ⌜ Room (paritySystem n m (now targets)) (now targets) (now numbers) (now stack) (now starts) (now waiting) (now next) (now outs) × (m < doneNumber) × Searched (paritySystem n m (now targets)) 0 0 0 (at (now numbers)) (at (now stack)) (at (now starts)) (at (now waiting)) (at (now next)) (at (now outs)) × (root < n) ⌝ }
     ensures { λ _. ⌜ SearchSays (paritySystem n m (now (targets .entry))) root (now (numbers .entry)) (now (numbers .exit)) (now (stack .exit)) (now (starts .exit)) (now (waiting .exit)) (now (next .exit)) (now (outs .entry)) (now (outs .exit)) ⌝ }
 {
+    if numbers[root] != 0 {
+        return;
+    }
     enter(root, 0, 0, 0, numbers, stack, starts, waiting);
     let mut count = 1;
     let mut parts = 1;
@@ -263,39 +266,6 @@ fn search(
     }
 }
 
-// Searches from a state, unless it is met already.
-fn visit(
-    n: usize,
-    m: usize,
-    targets: &[u16],
-    root: usize,
-    numbers: &mut [u16],
-    stack: &mut [u16],
-    starts: &mut [u16],
-    waiting: &mut [u16],
-    next: &mut [u16],
-    outs: &mut [u16],
-)
-    requires { ⌜ Room (paritySystem n m (now targets)) (now targets) (now numbers) (now stack) (now starts) (now waiting) (now next) (now outs) × (m < doneNumber) × Searched (paritySystem n m (now targets)) 0 0 0 (at (now numbers)) (at (now stack)) (at (now starts)) (at (now waiting)) (at (now next)) (at (now outs)) × (root < n) ⌝ }
-    ensures { λ _. ⌜ SearchSays (paritySystem n m (now (targets .entry))) root (now (numbers .entry)) (now (numbers .exit)) (now (stack .exit)) (now (starts .exit)) (now (waiting .exit)) (now (next .exit)) (now (outs .entry)) (now (outs .exit)) ⌝ }
-{
-    if numbers[root] != 0 {
-        return;
-    }
-    search(
-        n,
-        m,
-        targets,
-        root,
-        numbers,
-        stack,
-        starts,
-        waiting,
-        next,
-        outs,
-    );
-}
-
 // Searches from every state that is not yet met.
 pub(crate) fn search_all(
     n: usize,
@@ -314,7 +284,7 @@ pub(crate) fn search_all(
     let mut q = 0;
     // no state is open, and the states below q have their component
     while q < n {
-        visit(
+        search(
             n,
             m,
             targets,

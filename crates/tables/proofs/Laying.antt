@@ -7,22 +7,22 @@
 --     laid-homes-at, laid-homes     its components are the table's
 --     laid-counted           what its inside transitions require is what counts in the table
 use mathlib.Core.Path.{_≡_, refl, sym, ap, _∙_}
-use mathlib.Core.Bool.{Bool, true, false, _&&_}
+use mathlib.Core.Bool.{Bool, false}
 use mathlib.Core.List.{List}
-use Prim.Native.Nat.{ℕ, zero, suc, _+_, _-_, _*_, _/_, _%_, _^_, _<_, _≤_}
+use Prim.Native.Nat.{ℕ, zero, suc, _+_, _-_, _*_, _/_, _^_, _<_, _≤_}
 use native.Mathlib.Nat.{lt-of-lt-of-le}
 use native.Mathlib.Omega.{arith}
-use lib.Dec.{eqb, ltb}
+use lib.Dec.{eqb}
 use lib.ListN.{length, getD, take, drop}
 use lib.Pow.{pow-mono}
-use borrow.Author.Tests.{eqb-true, eqb-false, ne-eqb}
-use Rattle.rules.specs.Basics.{pick, bit, anyBelow, tabulate, asBits}
+use borrow.Author.Tests.{ne-eqb}
+use Rattle.rules.specs.Basics.{tabulate, asBits}
 use Rattle.rules.specs.Judges.{paritySystem}
-use Rattle.rules.specs.Limits.{headerSize, maxStates, maxPairs, noState, noRow}
+use Rattle.rules.specs.Limits.{headerSize, noState, noRow}
 use Rattle.rules.specs.Says.{over}
 use Rattle.rules.specs.Systems.{System, componentOf, metWithin, cell}
 use Rattle.rules.specs.Tables.{Table, tableOf, systemOf, targetOf, prohibitedByte, requiredByte, requires, counts}
-use Rattle.rules.proofs.Arrays.{getD-any, tabulate-same}
+use Rattle.rules.proofs.Arrays.{getD-any}
 use Rattle.rules.proofs.Bits.{bit-over}
 use Rattle.rules.proofs.Bools.{by, clash}
 use Rattle.rules.proofs.Reach.{met-view}

@@ -14,12 +14,12 @@ use Prim.Native.Nat.{ℕ, zero, suc, _+_, _-_, _*_, _/_, _%_, _^_, _≤_, _<_}
 use native.Mathlib.Nat.{lt-of-lt-of-le, mul-le-mul, not-suc-le-zero}
 use native.Mathlib.Omega.{arith}
 use lib.Bits.{bitAnd, and-lt}
-use lib.Dec.{eqb, leb, ltb}
+use lib.Dec.{eqb, leb}
 use lib.ListN.{length, getD, take, set, length-set}
 use lib.Pow.{pow-mono}
 use lib.Seq.{getD-set-same, getD-set-other, getD-take, length-take-le}
-use borrow.Author.Tests.{eqb-true, eqb-false, ne-eqb, le-leb, leb-true, leb-false, lt-ltb}
-use Rattle.rules.specs.Basics.{pick, keep, tabulate, bit, asBits}
+use borrow.Author.Tests.{eqb-true, eqb-false, ne-eqb, le-leb, leb-false, lt-ltb}
+use Rattle.rules.specs.Basics.{keep, tabulate, bit, asBits}
 use Rattle.rules.specs.Judges.{paritySystem}
 use Rattle.rules.specs.Limits.{maxStates, maxLetters, maxPairs, noState, noRow}
 use Rattle.rules.specs.Systems.{isInside, componentOf, cell}
@@ -27,13 +27,13 @@ use Rattle.rules.specs.Tables.{Table, systemOf, targetOf, prohibitedByte, requi
 use Rattle.rules.proofs.Arrays.{cell-same}
 use Rattle.rules.proofs.Bits.{bit-and, bit-over, as-bits-below, as-bits-at, bits-are}
 use Rattle.rules.proofs.Bools.{by}
-use Rattle.records.specs.Words.{limit, isMarked, packed}
+use Rattle.records.specs.Words.{limit, isMarked}
 use Rattle.tables.specs.Layouts.{wideTarget, TargetsLaid, MarksLaid, IsTable, countedPairs, countedIn, surveyFits, SurveySays}
 use Rattle.tables.specs.Parts.{Listed}
 use Rattle.tables.proofs.Cells.{cell-within}
 use Rattle.tables.proofs.Laying.{laid-homes-at, laid-counted}
 use Rattle.tables.proofs.Surveying.{home-inside, listed}
-use Rattle.explore.specs.Cells.{span, crossingKind, crossingCode, insideCode}
+use Rattle.explore.specs.Cells.{span}
 use Rattle.translate.specs.Cells.{cutMarks, entryKey, cellCode, codeIn, risingKey, CellsRoom, Written, LaidTable, TableCodes}
 use Rattle.translate.proofs.RowKeys.{entry-small}
 

@@ -15,10 +15,9 @@ use Prim.Native.Nat.{ℕ, zero, suc, _*_, _<_, _≤_}
 use native.Mathlib.Nat.{zero-mul, mul-le-mul-right}
 use native.Mathlib.Omega.{arith}
 use lib.Dec.{eqb, eqb·suc-zero, ltb}
-use lib.ListN.{length, getD, take, length-map}
-use lib.Seq.{getD-take, length-take-le}
+use lib.ListN.{length, getD, length-map}
 use borrow.Author.Tests.{ne-eqb, ltb-false, le-ltb}
-use Rattle.rules.specs.Basics.{pick, firstOf, tabulate}
+use Rattle.rules.specs.Basics.{pick, firstOf}
 use Rattle.rules.specs.Arrays.{Beyond, Cleared}
 use Rattle.rules.specs.Codings.{Codes}
 use Rattle.rules.specs.Limits.{maxStates, maxLetters, maxRows, noRow}
@@ -27,7 +26,7 @@ use Rattle.rules.specs.Records.{decimal}
 use Rattle.rules.specs.Rows.{Row, Plan, rowsOf, isFull}
 use Rattle.rules.specs.Tables.{Table, tableOf, tableFault, tablePlan}
 use Rattle.rules.specs.Claims.{targets, priorities, sourceStates, recordNumbers}
-use Rattle.rules.specs.Says.{areShort, translateFault, over, padded, afterwards, TranslateSays, TranslationAgrees}
+use Rattle.rules.specs.Says.{areShort, translateFault, padded, afterwards, TranslateSays, TranslationAgrees}
 use Rattle.rules.proofs.Bools.{by, or-none}
 use Rattle.rules.proofs.Arrays.{getD-any, cells-length, mapped-at}
 use Rattle.rules.proofs.Coding.{all-at, row-coded, rows-coded, rows-good, full-coded, targets-coded, priorities-coded}

@@ -1,17 +1,17 @@
 -- `tables::find_components` meets its contract: each return is one law of `Promises`.
 use borrow.Author.Needs.{needs}
-use mathlib.Core.Path.{_≡_, sym, ap, _∙_}
+use mathlib.Core.Path.{sym, ap, _∙_}
 use mathlib.Core.List.{List}
-use Prim.Native.Nat.{ℕ, _*_, _≤_, _<_}
+use Prim.Native.Nat.{ℕ, _*_, _≤_}
 use native.Mathlib.Omega.{arith}
-use lib.ListN.{length, getD, length-take, length-drop}
-use Rattle.rules.specs.Says.{over, components}
+use lib.ListN.{length}
+use Rattle.rules.specs.Says.{over}
 use Rattle.rules.specs.Tables.{tableOf}
 use Rattle.rules.specs.Systems.{componentOf}
 use Rattle.rules.proofs.Arrays.{tabulate-same}
 use Rattle.rules.proofs.Refusals.{TakenTable, taken-table}
 use Rattle.tables.specs.Parts.{Taken, statesOf, systemIn, Listed}
-use Rattle.tables.specs.Layouts.{targetCells, TargetsLaid}
+use Rattle.tables.specs.Layouts.{TargetsLaid}
 use Rattle.tables.proofs.Refused.{targets-part}
 use Rattle.tables.proofs.Cells.{target-count}
 use Rattle.tables.proofs.Laying.{targets-written, targets-laid, is-table, laid-homes}

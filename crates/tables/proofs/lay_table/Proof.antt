@@ -1,13 +1,13 @@
 -- `tables::lay_table` meets its contract: each return is one law of `Promises`.
 use borrow.Author.Needs.{needs}
-use mathlib.Core.Path.{_≡_, sym, _∙_}
+use mathlib.Core.Path.{sym, _∙_}
 use mathlib.Core.List.{List}
 use Prim.Native.Nat.{ℕ, _*_, _≤_}
 use native.Mathlib.Omega.{arith}
 use lib.Dec.{ltb}
 use lib.ListN.{length}
 use borrow.Author.Tests.{ltb-false}
-use Rattle.rules.specs.Tables.{Table, tableOf}
+use Rattle.rules.specs.Tables.{tableOf}
 use Rattle.rules.proofs.Bools.{or-none}
 use Rattle.rules.proofs.Refusals.{TakenTable, taken-table}
 use Rattle.tables.specs.Parts.{Taken}

@@ -1,14 +1,12 @@
 -- `tables::survey_cells` meets its contract: where all fits there is room, and the components are found before what counts there.
 use borrow.Author.Needs.{needs}
-use mathlib.Core.Path.{_≡_, refl, sym, _∙_}
-use mathlib.Core.Bool.{true}
+use mathlib.Core.Path.{refl, sym, _∙_}
 use Prim.Native.Nat.{_*_, _≤_}
 use lib.ListN.{length}
 use borrow.Author.Tests.{not-true, not-false}
 use Rattle.rules.specs.Judges.{paritySystem}
 use Rattle.rules.specs.Limits.{maxStates, maxLetters}
 use Rattle.rules.specs.Systems.{componentOf}
-use Rattle.tables.specs.Parts.{CellsRoom}
 use Rattle.tables.proofs.Surveying.{listed}
 use Rattle.tables.proofs.Promises.{survey-room}
 use Rattle.tables.proofs.survey_cells.Statement.{statement}

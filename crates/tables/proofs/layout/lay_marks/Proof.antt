@@ -5,7 +5,7 @@ use Prim.Native.Nat.{suc, _+_, _-_, _*_, _≤_}
 use native.Mathlib.Nat.{le-antisymm}
 use native.Mathlib.Numerals.{add-one}
 use native.Mathlib.Omega.{arith}
-use lib.ListN.{length, getD}
+use lib.ListN.{getD}
 use Rattle.rules.proofs.Filling.{Filled, filled-none, filled-more, filled-over}
 use Rattle.tables.proofs.layout.lay_marks.Statement.{statement}
 use Rattle.tables.proofs.layout.lay_marks.Tie as tie

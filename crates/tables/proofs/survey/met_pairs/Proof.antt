@@ -1,14 +1,12 @@
 -- `tables::survey::met_pairs` meets its contract. The invariant: what the letters below a make count is found.
 use borrow.Author.Needs.{needs}
-use mathlib.Core.Path.{_≡_, refl, ap, _∙_}
+use mathlib.Core.Path.{refl, _∙_}
 use Prim.Native.Nat.{ℕ, _+_, _-_, _*_, _<_, _≤_}
 use native.Mathlib.Nat.{le-antisymm}
 use native.Mathlib.Omega.{arith}
-use lib.ListN.{length, getD}
-use Rattle.rules.specs.Basics.{bit, anyBelow}
 use Rattle.rules.specs.Judges.{paritySystem}
 use Rattle.rules.specs.Limits.{noRow}
-use Rattle.rules.specs.Systems.{cell, isInside}
+use Rattle.rules.specs.Systems.{cell}
 use Rattle.rules.proofs.Arrays.{getD-any}
 use Rattle.rules.proofs.Bits.{bit-none}
 use Rattle.tables.specs.Layouts.{requiredIn}

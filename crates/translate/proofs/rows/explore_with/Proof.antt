@@ -1,10 +1,9 @@
 -- `translate::rows::explore_with` meets its contract: the codes that are written are the table's, and the task is its.
 use borrow.Author.Needs.{needs}
-use mathlib.Core.Path.{_≡_, refl, sym}
+use mathlib.Core.Path.{refl, sym}
 use mathlib.Core.List.{List}
-use Prim.Native.Nat.{ℕ, _*_, _<_, _≤_}
+use Prim.Native.Nat.{ℕ, _<_, _≤_}
 use native.Mathlib.Omega.{arith}
-use lib.ListN.{length, getD}
 use lib.Seq.{length-take-le}
 use Rattle.rules.specs.Judges.{paritySystem}
 use Rattle.rules.specs.Limits.{maxStates}
