@@ -4,7 +4,7 @@
 --     bit-masked         a bit, as a word with that bit alone finds it
 --     bit-none, bit-over      no bit of 0 is set, nor one above a word
 --     one-shifted        a word with one bit, as a shift makes it
---     as-bits-below, as-bits-more, as-bits-at     the number whose bits pass a test, one number more, and its bits
+--     as-bits-below, as-bits-at     the number whose bits pass a test, and its bits
 --     bits-determine, bits-are      numbers with the same bits are equal
 --     both-below         two bytes, as one word, have no bit from j on: both are below 2 ^ j
 --     joined-low, joined-high     two bytes, as one word, joined to a word: the lower and the upper byte of it
@@ -12,7 +12,6 @@ use mathlib.Core.Path.{_≡_, refl, sym, ap, _∙_}
 use mathlib.Core.Bool.{Bool, true, false, not, _&&_, _||_}
 use Prim.Native.Nat.{ℕ, zero, suc, _+_, _-_, _*_, _/_, _%_, _^_, max, min, _<_, _≤_}
 use native.Mathlib.Nat.{one-mul, one-le-pow, pow-suc, div-eq-of-lt, zero-div, div-one, zero-add, not-suc-le-zero, zero-mul, mod-lt}
-use native.Mathlib.Numerals.{add-one}
 use native.Mathlib.Omega.{arith}
 use lib.Dec.{eqb, ltb, lit<, eqb·suc-zero}
 use lib.Bits.{bitAnd, bitOr, and-step, or-step, and-shr, or-shr, and-le-r, or-shifted, and-block, and-high, or-mod}
@@ -90,9 +89,6 @@ module _ (b : ℕ → Bool) where
   as-bits-below zero = lit< tt
   as-bits-below (suc k) =
       rw (pow-suc 2 k) (by (b k) (λ e. rw e (omega (arith, as-bits-below k))) (λ e. rw e (omega (arith, as-bits-below k))))
-
-  pub as-bits-more : (a v w : ℕ) (taken : Bool) → v ≡ asBits a b → taken ≡ b a → w ≡ when taken (2 ^ a) + v → w ≡ asBits (a + 1) b
-  as-bits-more a v w taken e t h = h ∙ rw (add-one a, t, e)
 
   pub as-bits-at : (k j : ℕ) → j < k → bit j (asBits k b) ≡ b j
   as-bits-at zero j l = absurd (not-suc-le-zero l)

@@ -1,28 +1,25 @@
 -- Reach and components, for any number of states.
 --     via-link, via-join, via-least     Warshall's closure holds the links, is closed under joining at a state below k, and is the least such
---     via-stage                         one stage of the closure: what a relation holds after it, whatever the relation is stored in
 --     path-append                       paths join
 --     reaches-view                      p reaches q exactly if a path leads from p to q
 --     together-view                     two states share a component exactly if a path leads from each to the other
 --     together-refl, together-sym, together-trans     sharing a component is an equivalence
 --     component-together, component-least, component-same     componentOf is the smallest state of the component, and the same for all of it
---     together-chains, component-is     the first state with a chain there and back is the smallest
---     component-met, component-self     the same, read off any relation that holds the chains
 --     together-component, inside-component, met-component     what shares a component, is inside and is met, by the numbers of components alone
 --     inside-of-return                  a transition with a way back is inside
 --     met-view, met-same                what some inside transition of a component meets, and that it is the same for the whole component
-use mathlib.Core.Path.{_≡_, refl, sym, _∙_}
+use mathlib.Core.Path.{_≡_, refl, sym}
 use mathlib.Core.Logic.{_↔_}
-use mathlib.Core.Bool.{Bool, true, false, _&&_, _||_}
+use mathlib.Core.Bool.{Bool, true, _&&_}
 use mathlib.Core.List.{List, [], _∷_, _++_}
 use Prim.Native.Nat.{ℕ, zero, suc, _≤_, _<_}
 use native.Mathlib.Nat.{not-suc-le-zero, le-antisymm}
 use native.Mathlib.Omega.{arith}
 use lib.Dec.{eqb, ltb}
-use borrow.Author.Tests.{eqb-true, eqb-false, eq-eqb, ne-eqb, ltb-true, ltb-false, lt-ltb}
-use Rattle.rules.specs.Basics.{anyBelow, SameBelow}
+use borrow.Author.Tests.{eqb-true, eqb-false, eq-eqb, ltb-true, lt-ltb}
+use Rattle.rules.specs.Basics.{anyBelow}
 use Rattle.rules.specs.Systems.{System, linked, via, reaches, together, componentOf, isInside, metWithin, Path, here, step}
-use Rattle.rules.proofs.Bools.{by, clash, or-cases, or-left, or-right, and-both, and-parts, bool-ext}
+use Rattle.rules.proofs.Bools.{by, or-cases, or-left, or-right, and-both, and-parts, bool-ext}
 use Rattle.rules.proofs.Sets.{below-find, below-intro, below-same, least-passes, least-least}
 
 -- Warshall's closure of any relation
@@ -56,11 +53,6 @@ module _ (e : ℕ → ℕ → Bool) where
           via-split k p x g
           (λ px. via-split k x q h (λ xq. or-left (via e k p q) (via e k p k && via e k k q) (join p q px xq)) (λ xk kq. via-through k p q (join p k px xk) kq))
           (λ pk kx. via-split k x q h (λ xq. via-through k p q pk (join k q kx xq)) (λ xk kq. via-through k p q pk kq))
-
-  -- one stage of the closure, whatever a relation is stored in
-  pub via-stage : (n k : ℕ) (old new : ℕ → ℕ → Bool) → k < n → SameBelow n old (via e k)
-      → ((p : ℕ) → p < n → (q : ℕ) → q < n → new p q ≡ old p q || (old p k && old k q)) → SameBelow n new (via e (suc k))
-  via-stage n k old new l h f p lp q lq = f p lp q lq ∙ rw (h p lp q lq, h p lp k l, h k l q lq)
 
   pub via-least : (P : ℕ → ℕ → Type 0) → ((p q : ℕ) → e p q ≡ true → P p q) → ((p x q : ℕ) → P p x → P x q → P p q) → (k p q : ℕ)
       → via e k p q ≡ true → P p q
@@ -137,38 +129,12 @@ module _ (s : System) where
   unfolding componentOf
   component-least q p h = least-least (s .states) 0 (together s q) p (omega arith) h
 
-  -- the first state of a component, looked for state by state
-  pub together-chains : (p q : ℕ) → (p ≡ q → ⊥) → together s p q ≡ via (linked s) (s .states) p q && via (linked s) (s .states) q p
-  unfolding together reaches
-  together-chains p q d = rw (ne-eqb p q d, ne-eqb q p (λ e. d (sym e)))
-
-  pub component-is : (q r : ℕ) → q < s .states → together s q r ≡ true → ((i : ℕ) → i < r → together s q i ≡ false) → r ≡ componentOf s q
-  component-is q r l t none =
-      by
-      (ltb (componentOf s q) r)
-      (λ e. clash (component-together q l) (none (componentOf s q) (ltb-true (componentOf s q) r e)))
-      (λ e. le-antisymm (ltb-false (componentOf s q) r e) (component-least q r t))
-
   pub component-same : (p q : ℕ) → p < s .states → q < s .states → (together s p q ≡ true) ↔ (componentOf s p ≡ componentOf s q)
   component-same p q lp lq =
       (λ h. le-antisymm (below p q lq h) (below q p lp (together-sym p q h)), λ e. together-trans p (componentOf s p) q (component-together p lp) (together-sym q (componentOf s p) (rw e (component-together q lq))))
     where
       below : (x y : ℕ) → y < s .states → together s x y ≡ true → componentOf s x ≤ componentOf s y
       below x y l h = component-least x (componentOf s y) (together-trans x y (componentOf s y) h (component-together y l))
-
-  -- the same, read off any relation that holds the chains
-  module _ (r : ℕ → ℕ → Bool) (h : SameBelow (s .states) r (via (linked s) (s .states))) (q : ℕ) (l : q < s .states) where
-    ways-together : (i : ℕ) → i < q → r q i && r i q ≡ together s q i
-    ways-together i b =
-        let li : i < s .states = omega arith in
-        rw (h q l i li, h i li q l) (sym (together-chains q i (λ e. omega arith)))
-
-    pub component-met : (p : ℕ) → p < q → r q p && r p q ≡ true → ((i : ℕ) → i < p → r q i && r i q ≡ false) → p ≡ componentOf s q
-    component-met p b m none =
-        component-is q p l (sym (ways-together p b) ∙ m) (λ i c. sym (ways-together i (omega arith)) ∙ none i c)
-
-    pub component-self : ((i : ℕ) → i < q → r q i && r i q ≡ false) → q ≡ componentOf s q
-    component-self none = component-is q q l (together-refl q) (λ i c. sym (ways-together i c) ∙ none i c)
 
   -- the number of a component decides what is inside and what is met
   pub together-component : (p q : ℕ) → p < s .states → q < s .states → together s p q ≡ eqb (componentOf s q) (componentOf s p)

@@ -10,7 +10,7 @@
 use mathlib.Core.Path.{_≡_, _∙_}
 use mathlib.Core.Bool.{false, not, _&&_}
 use mathlib.Core.List.{List, [], _∷_}
-use Prim.Native.Nat.{ℕ, zero, suc, _+_, _-_, _*_, _^_, _<_, _≤_}
+use Prim.Native.Nat.{ℕ, zero, suc, _+_, _*_, _^_, _<_, _≤_}
 use native.Mathlib.Nat.{mul-le-mul, le-refl, le-of-lt, suc-mul}
 use native.Mathlib.Omega.{arith}
 use lib.Dec.{eqb, ltb}
@@ -18,10 +18,9 @@ use lib.ListN.{length, getD, drop, length-take, length-drop, List·getD-eq-defau
 use lib.Pow.{pow-pos}
 use lib.Seq.{getD-take, getD-drop}
 use borrow.Author.Tests.{ltb-true, not-false}
-use Rattle.rules.specs.Basics.{bit}
 use Rattle.rules.specs.Limits.{headerSize, noState}
 use Rattle.rules.specs.Systems.{cell}
-use Rattle.rules.specs.Tables.{Table, tableOf, targetOf, prohibitedByte, requiredByte, prohibits, markFault, marksFault, countsBy}
+use Rattle.rules.specs.Tables.{Table, tableOf, targetOf, prohibitedByte, requiredByte, markFault, marksFault}
 use Rattle.rules.proofs.Arrays.{getD-any}
 use Rattle.rules.proofs.Bools.{or-none, and-parts}
 use Rattle.rules.proofs.Refusals.{taken-table}
@@ -97,26 +96,8 @@ module _ (bs : List ℕ) where
         getD-take cells (drop headerSize bs) c (t .states) within ∙ getD-drop headerSize bs c (t .states)
         ∙ rw e (getD-any bs (targetAt q a) (t .states) 0 target-within)
 
-    pub prohibited-within : prohibitedAt q a < length bs
-    prohibited-within = omega (arith, within, taken-table bs taken .exact)
-
-    pub required-within : requiredAt q a < length bs
-    required-within = omega (arith, within, taken-table bs taken .exact)
-
     pub prohibited-byte : prohibitedByte t q a ≡ getD bs (prohibitedAt q a) 0
     prohibited-byte = mark-byte (2 * cell (t .letters) q a) (prohibitedAt q a) (omega (arith, within)) (omega arith)
 
     pub required-byte : requiredByte t q a ≡ getD bs (requiredAt q a) 0
     required-byte = mark-byte (suc (2 * cell (t .letters) q a)) (requiredAt q a) (omega (arith, within)) (omega arith)
-
-    pub prohibits-byte : (i : ℕ) → bit i (getD bs (prohibitedAt q a) 0) ≡ prohibits t q a (suc i)
-    prohibits-byte i = let e : suc i - 1 ≡ i = omega arith in rw (e, prohibited-byte)
-
-    pub counts-byte : (i : ℕ) → bit i (getD bs (requiredAt q a) 0) ≡ countsBy t (suc i) q a
-    counts-byte i = let e : suc i - 1 ≡ i = omega arith in rw (e, required-byte)
-
-    pub prohibits-below : getD bs (prohibitedAt q a) 0 < 2 ^ t .pairs
-    prohibits-below = rw prohibited-byte at (marks-small taken (cell (t .letters) q a) .0)
-
-    pub counts-below : getD bs (requiredAt q a) 0 < 2 ^ t .pairs
-    counts-below = rw required-byte at (marks-small taken (cell (t .letters) q a) .1)

@@ -1,7 +1,7 @@
 -- `explore::rows::next_key` meets its contract, by the kind of the transition.
 use borrow.Author.Needs.{needs}
 use mathlib.Core.Path.{_≡_, _∙_}
-use Prim.Native.Nat.{_+_, _*_, _/_, _%_}
+use Prim.Native.Nat.{_/_, _%_}
 use native.Mathlib.Omega.{arith}
 use borrow.Author.Tests.{lt-ltb, le-ltb}
 use Rattle.explore.specs.Cells.{stepIn, keyOf, span, crossingKind}

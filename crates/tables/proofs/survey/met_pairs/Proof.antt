@@ -6,7 +6,6 @@ use native.Mathlib.Nat.{le-antisymm}
 use native.Mathlib.Omega.{arith}
 use Rattle.rules.specs.Judges.{paritySystem}
 use Rattle.rules.specs.Limits.{noRow}
-use Rattle.rules.specs.Systems.{cell}
 use Rattle.rules.proofs.Arrays.{getD-any}
 use Rattle.rules.proofs.Bits.{bit-none}
 use Rattle.tables.specs.Layouts.{requiredIn}
