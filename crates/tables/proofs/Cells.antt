@@ -1,12 +1,10 @@
 -- Where the cells of a table that is taken stand among its bytes.
 --     cell-within, row-within       a cell's number is below the number of cells; the cells before a row
 --     targetAt, target-within, target-byte         the place of the byte that says where q goes by a, and that byte
---     prohibitedAt, prohibited-within, prohibited-byte     the place of the byte of that transition's prohibited marks, and that byte
---     requiredAt, required-within, required-byte     the same of its required marks
---     prohibits-byte, counts-byte   what the bits of the two bytes say: which pairs the transition prohibits and makes count
+--     prohibitedAt, prohibited-byte     the place of the byte of that transition's prohibited marks, and that byte
+--     requiredAt, required-byte     the same of its required marks
 --     target-count, mark-count      one target and two marks for each cell
 --     marks-small                   no marks have a bit above pair k, whatever the cell
---     prohibits-below, counts-below      nor have the two bytes
 use mathlib.Core.Path.{_≡_, _∙_}
 use mathlib.Core.Bool.{false, not, _&&_}
 use mathlib.Core.List.{List, [], _∷_}

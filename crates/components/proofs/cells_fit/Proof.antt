@@ -38,11 +38,4 @@ returns-2 c =
     rw (lt-ltb (a .states) doneNumber (l .0), lt-ltb (a .letters) doneNumber (l .1))
 
 pub cells-fit-spec : {M : Type 1} → statement M
-cells-fit-spec =
-    tie.close
-    (tie.spec
-    (λ c. search needs)
-    (λ c. search needs)
-    returns
-    mul-result
-    returns-2)
+cells-fit-spec = tie.close (tie.spec (λ c. search needs) (λ c. search needs) returns mul-result returns-2)

@@ -24,14 +24,5 @@ returns c = λ q l. c .before .loop .inv .1 .done q (omega (arith, c .loop-test 
 pub clear-spec : {M : Type 1} → statement M
 clear-spec =
     tie.close
-    (tie.spec
-    Inv-loop
-    μ-loop
-    (λ c. (omega arith, filled-none _ _))
-    (λ c. search needs)
-    (λ c. omega (arith, c .before .loop .inv .1 .size))
-    (λ c. search needs)
-    (λ c. search needs)
-    loop-again
-    (λ c. c .before .loop .inv .1 .size)
-    returns)
+    (tie.spec Inv-loop μ-loop (λ c. (omega arith, filled-none _ _)) (λ c. search needs) (λ c. omega (arith, c .before .loop .inv .1 .size))
+    (λ c. search needs) (λ c. search needs) loop-again (λ c. c .before .loop .inv .1 .size) returns)

@@ -48,14 +48,5 @@ returns-2 c = record { unfit = λ e. clash (fits (c .before .before .before .bef
 pub find-reached-spec : {M : Type 1} → statement M
 find-reached-spec =
     tie.close
-    (tie.spec
-    (λ c κs. search needs)
-    (λ c κs. search needs)
-    returns
-    (λ c κs. room (c .before) .0 .number-room)
-    reach-from-requires
-    (λ c. search needs)
-    (λ c. search needs)
-    (λ c. search needs)
-    (λ c. search needs)
-    returns-2)
+    (tie.spec (λ c κs. search needs) (λ c κs. search needs) returns (λ c κs. room (c .before) .0 .number-room) reach-from-requires (λ c. search needs)
+    (λ c. search needs) (λ c. search needs) (λ c. search needs) returns-2)

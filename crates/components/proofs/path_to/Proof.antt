@@ -60,17 +60,6 @@ returns c =
 pub path-to-spec : {M : Type 1} → statement M
 path-to-spec =
     tie.close
-    (tie.spec
-    Inv-loop
-    μ-loop
-    (λ c. (refl, leading-none _ _ _ _))
-    (λ c. let t = on (c) in omega arith)
-    (λ c. let t = on (c .before) in omega arith)
-    slice-write-out
-    (λ c. let t = on (c .before) in omega arith)
-    (λ c. let t = on (c .before .before) in omega arith)
-    cast-i
-    (λ c. let t = on (c .before .before) in omega arith)
-    loop-again
-    (λ c. c .before .loop .inv .0)
-    returns)
+    (tie.spec Inv-loop μ-loop (λ c. (refl, leading-none _ _ _ _)) (λ c. let t = on (c) in omega arith) (λ c. let t = on (c .before) in omega arith)
+    slice-write-out (λ c. let t = on (c .before) in omega arith) (λ c. let t = on (c .before .before) in omega arith) cast-i
+    (λ c. let t = on (c .before .before) in omega arith) loop-again (λ c. c .before .loop .inv .0) returns)

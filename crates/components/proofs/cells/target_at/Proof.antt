@@ -15,10 +15,4 @@ returns c =
     getD-any (s .args .targets .now) (s .args .place) 0 noRow (s .pre)
 
 pub target-at-spec : {M : Type 1} → statement M
-target-at-spec =
-    tie.close
-    (tie.spec
-    (λ c. search needs)
-    (λ c. search needs)
-    cast-result
-    returns)
+target-at-spec = tie.close (tie.spec (λ c. search needs) (λ c. search needs) cast-result returns)

@@ -114,33 +114,8 @@ returns-2 c =
 pub extend-spec : {M : Type 1} → statement M
 extend-spec =
     tie.close
-    (tie.spec
-    mul-scan
-    slice-read-scan
-    cast-scan
-    scan-requires
-    cast-next
-    mul-next
-    slice-write-next
-    (λ c. search needs)
-    (λ c. search needs)
-    (λ c. search needs)
-    (λ c. search needs)
-    returns
-    mul-target-at
-    (λ c. omega (arith, here (c)))
-    (λ c κs. here (c))
-    enter-requires
-    add-next
-    cast-next-2
-    mul-next-2
-    slice-write-next-2
-    (λ c. omega (arith, sizes (c .before)))
-    (λ c. omega (arith, sizes (c .before)))
-    (λ c. omega (arith, sizes (c .before)))
-    (λ c. search needs)
-    (λ c. search needs)
-    (λ c. search needs)
-    (λ c. search needs)
-    (λ c. search needs)
+    (tie.spec mul-scan slice-read-scan cast-scan scan-requires cast-next mul-next slice-write-next (λ c. search needs) (λ c. search needs)
+    (λ c. search needs) (λ c. search needs) returns mul-target-at (λ c. omega (arith, here (c))) (λ c κs. here (c)) enter-requires add-next
+    cast-next-2 mul-next-2 slice-write-next-2 (λ c. omega (arith, sizes (c .before))) (λ c. omega (arith, sizes (c .before)))
+    (λ c. omega (arith, sizes (c .before))) (λ c. search needs) (λ c. search needs) (λ c. search needs) (λ c. search needs) (λ c. search needs)
     returns-2)

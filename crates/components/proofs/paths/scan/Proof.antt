@@ -60,18 +60,6 @@ returns-2 c = record { read = c .before .loop .inv; fresh = λ l. absurd (omega 
 pub scan-spec : {M : Type 1} → statement M
 scan-spec =
     tie.close
-    (tie.spec
-    Inv-loop
-    μ-loop
-    mul-first
-    (λ c. read-none _ _ _ _ _ _ (c .before .before .before .pre .3))
-    (λ c. omega (arith, here c))
-    (λ c κs. here c)
-    (λ c. search needs)
-    (λ c. search needs)
-    returns
-    joined-requires
-    (λ c. omega (arith, c .before .before .loop-test .taken))
-    (λ c. omega (arith, c .before .before .loop-test .taken))
-    loop-again
-    returns-2)
+    (tie.spec Inv-loop μ-loop mul-first (λ c. read-none _ _ _ _ _ _ (c .before .before .before .pre .3)) (λ c. omega (arith, here c)) (λ c κs. here c)
+    (λ c. search needs) (λ c. search needs) returns joined-requires (λ c. omega (arith, c .before .before .loop-test .taken))
+    (λ c. omega (arith, c .before .before .loop-test .taken)) loop-again returns-2)

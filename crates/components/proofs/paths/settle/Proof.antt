@@ -54,20 +54,5 @@ returns c = rw (le-antisymm (c .before .loop .inv .1) (c .loop-test .left)) at (
 pub settle-spec : {M : Type 1} → statement M
 settle-spec =
     tie.close
-    (tie.spec
-    Inv-loop
-    μ-loop
-    loop-holds
-    (λ c. search needs)
-    (λ c. search needs)
-    cast-q
-    mul-numbers
-    slice-write-numbers
-    mul-outs
-    slice-write-outs
-    (λ c. search needs)
-    (λ c. search needs)
-    loop-again
-    same-length
-    same-length-2
-    returns)
+    (tie.spec Inv-loop μ-loop loop-holds (λ c. search needs) (λ c. search needs) cast-q mul-numbers slice-write-numbers mul-outs slice-write-outs
+    (λ c. search needs) (λ c. search needs) loop-again same-length same-length-2 returns)

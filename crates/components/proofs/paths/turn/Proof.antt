@@ -93,29 +93,6 @@ returns-2 c = let s = c .before .before .before .before .before .before .before 
 pub turn-spec : {M : Type 1} → statement M
 turn-spec =
     tie.close
-    (tie.spec
-    sub-start
-    mul-start
-    slice-read-start
-    (λ c. search needs)
-    mul-q
-    slice-read-q
-    cast-q
-    mul-if2
-    slice-read-if2
-    extend-requires
-    (λ c. search needs)
-    (λ c. search needs)
-    (λ c. search needs)
-    (λ c. search needs)
-    (λ c. search needs)
-    (λ c. search needs)
-    (λ c. search needs)
-    cast-from
-    smallest-requires
-    settle-requires
-    sub-t17
-    (λ c. search needs)
-    (λ c. search needs)
-    (λ c. search needs)
-    returns-2)
+    (tie.spec sub-start mul-start slice-read-start (λ c. search needs) mul-q slice-read-q cast-q mul-if2 slice-read-if2 extend-requires
+    (λ c. search needs) (λ c. search needs) (λ c. search needs) (λ c. search needs) (λ c. search needs) (λ c. search needs) (λ c. search needs)
+    cast-from smallest-requires settle-requires sub-t17 (λ c. search needs) (λ c. search needs) (λ c. search needs) returns-2)

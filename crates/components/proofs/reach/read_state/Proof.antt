@@ -83,22 +83,7 @@ returns c =
 pub read-state-spec : {M : Type 1} → statement M
 read-state-spec =
     tie.close
-    (tie.spec
-    Inv-loop
-    μ-loop
-    mul-first
-    slice-read-first
-    cast-first
-    mul-first-2
-    loop-holds
-    (λ c. omega (arith, within c))
-    (λ c κs. within c)
-    read-letter-requires
-    add-a
-    loop-less
-    loop-again
-    (λ c. c .before .loop .inv .3 .sizes .number-size)
-    (λ c. c .before .loop .inv .3 .sizes .queue-size)
-    (λ c. c .before .loop .inv .3 .sizes .parent-size)
-    (λ c. c .before .loop .inv .3 .sizes .letter-size)
-    returns)
+    (tie.spec Inv-loop μ-loop mul-first slice-read-first cast-first mul-first-2 loop-holds (λ c. omega (arith, within c)) (λ c κs. within c)
+    read-letter-requires add-a loop-less loop-again (λ c. c .before .loop .inv .3 .sizes .number-size)
+    (λ c. c .before .loop .inv .3 .sizes .queue-size) (λ c. c .before .loop .inv .3 .sizes .parent-size)
+    (λ c. c .before .loop .inv .3 .sizes .letter-size) returns)
