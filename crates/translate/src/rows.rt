@@ -19,18 +19,17 @@ ghost use Rattle.explore.specs.Cells.{sourceIn};
 ghost use Rattle.translate.specs.Cells.{LaidTable};
 ghost use Rattle.translate.specs.Rows.{TableExplored, Unpacked};
 
-// Finds the rows of a laid-out table. The codes of the cells go into a lent array.
-fn explore_with(
+// Finds the rows of a laid-out table.
+pub(crate) fn explore_table(
     laid: Laid,
     cell_targets: &[u16],
     cell_marks: &[u16],
-    cells: &mut [u32],
     capacity: usize,
     keys: &mut [u32],
     targets: &mut [u16],
     priorities: &mut [u8],
 ) -> Explored
-    requires { ⌜ ((t : Table) × LaidTable t (laid .states) (laid .letters) (laid .start) (now «cell_targets») (now «cell_marks»)) × (laid .states * laid .letters ≤ length (now cells)) ⌝ }
+    requires { ⌜ ((t : Table) × LaidTable t (laid .states) (laid .letters) (laid .start) (now «cell_targets») (now «cell_marks»)) ⌝ }
     ensures { λ r. ⌜ ((t : Table) → LaidTable t (laid .states) (laid .letters) (laid .start) (now («cell_targets» .entry)) (now («cell_marks» .entry)) → TableExplored t capacity (now (keys .entry)) (now (keys .exit)) (now (targets .entry)) (now (targets .exit)) (now (priorities .entry)) (now (priorities .exit)) r) ⌝ }
 {
     let states = laid.states;
@@ -39,6 +38,7 @@ fn explore_with(
     let mut homes = [0; MAX_STATES as usize];
     let mut counted = [0; MAX_STATES as usize];
     let mut entries = [0; MAX_STATES as usize];
+    let mut cells = [0; MAX_STATES as usize * MAX_LETTERS as usize];
     survey_cells(
         states,
         letters,
@@ -56,7 +56,7 @@ fn explore_with(
         &homes,
         &counted,
         &entries,
-        cells,
+        &mut cells,
     );
     let used = states * letters;
     let rule = Rule::Pairs;
@@ -67,32 +67,6 @@ fn explore_with(
         start,
     };
     find_rows(task, &cells[..used], capacity, keys, targets, priorities)
-}
-
-// Finds the rows of a laid-out table.
-pub(crate) fn explore_table(
-    laid: Laid,
-    cell_targets: &[u16],
-    cell_marks: &[u16],
-    capacity: usize,
-    keys: &mut [u32],
-    targets: &mut [u16],
-    priorities: &mut [u8],
-) -> Explored
-    requires { ⌜ ((t : Table) × LaidTable t (laid .states) (laid .letters) (laid .start) (now «cell_targets») (now «cell_marks»)) ⌝ }
-    ensures { λ r. ⌜ ((t : Table) → LaidTable t (laid .states) (laid .letters) (laid .start) (now («cell_targets» .entry)) (now («cell_marks» .entry)) → TableExplored t capacity (now (keys .entry)) (now (keys .exit)) (now (targets .entry)) (now (targets .exit)) (now (priorities .entry)) (now (priorities .exit)) r) ⌝ }
-{
-    let mut cells = [0; MAX_STATES as usize * MAX_LETTERS as usize];
-    explore_with(
-        laid,
-        cell_targets,
-        cell_marks,
-        &mut cells,
-        capacity,
-        keys,
-        targets,
-        priorities,
-    )
 }
 
 // Writes the source states of n rows, and their record numbers in place of their keys.

@@ -64,16 +64,10 @@ module _ (c : tie.Else2) where
   room : let a = given taken .args in HasRoom (a .capacity) (tableOf (bytes (lay taken)) .letters) (a .targets .now) (a .priorities .now) (a .sources .now) (a .records .now)
   room = has-room _ _ _ _ _ _ fits
 
-returns : tie.Need-returns
-returns c = promised (translate-refused _ _ _ _ _ _ _ (table-refusal (c .before .before .before .before)) (c .if1 .taken))
-
 returns-2 : tie.Need-returns-2
 returns-2 c =
     let e : tie.Else1 = c .before .before in
     promised (translate-short _ (is-taken e) _ _ _ _ _ (sym (by-letters e) ∙ sym (c .before .are-short .ensures) ∙ c .if2 .taken))
-
-explore-table-requires : tie.Need-explore-table-requires
-explore-table-requires c κs = (tableOf (bytes (lay (c .before .before .before .before .before .before .before))), laid (c .before .before .before .before .before .before .before))
 
 -- the rows have been looked for
 module _ (c : tie.After-explore-table) where
@@ -122,6 +116,9 @@ returns-3 c =
 pub translate-table-spec : {M : Type 1} → statement M
 translate-table-spec =
     tie.close
-    (tie.spec (λ c. search needs) (λ c. search needs) (λ c κs. search needs) returns (λ c κs. search needs) returns-2 (λ c. search needs)
-    (λ c. search needs) explore-table-requires (λ c κs. search needs) unpack-requires (λ c. search needs) clear-rows-requires (λ c κs. search needs)
-    (λ c. search needs) (λ c. search needs) (λ c. search needs) (λ c. search needs) returns-3)
+    (tie.spec (λ c. search needs) (λ c. search needs) (λ c κs. search needs)
+    (λ c. promised (translate-refused _ _ _ _ _ _ _ (table-refusal (c .before .before .before .before)) (c .if1 .taken))) (λ c κs. search needs)
+    returns-2 (λ c. search needs) (λ c. search needs)
+    (λ c κs. (tableOf (bytes (lay (c .before .before .before .before .before .before .before))), laid (c .before .before .before .before .before .before .before)))
+    (λ c κs. search needs) unpack-requires (λ c. search needs) clear-rows-requires (λ c κs. search needs) (λ c. search needs) (λ c. search needs)
+    (λ c. search needs) (λ c. search needs) returns-3)

@@ -21,9 +21,6 @@ returns c =
 in-range : (c : tie.Else1) → let m = c .before .before .args .task .letters in (eqb m 0 ≡ false) × (ltb maxLetters m ≡ false)
 in-range c = or-none (eqb (c .before .before .args .task .letters) 0) (ltb maxLetters (c .before .before .args .task .letters)) (c .if1 .left)
 
-cast-are-short : tie.Need-cast-are-short
-cast-are-short c = omega (arith, ltb-false maxLetters (c .before .before .before .before .args .task .letters) (in-range (c .before .before) .1))
-
 returns-2 : tie.Need-returns-2
 unfolding isUnfit
 returns-2 c = rw (in-range (c .before .before .before) .0, in-range (c .before .before .before) .1, c .before .any-strays .ensures, c .are-short .ensures)
@@ -32,4 +29,6 @@ pub is-unfit-spec : {M : Type 1} → statement M
 is-unfit-spec =
     tie.close
     (tie.spec (λ c. search needs) returns (λ c. omega (arith, eqb-false (c .before .before .args .task .letters) 0 (in-range c .0)))
-    (λ c. search needs) (λ c κs. search needs) cast-are-short (λ c κs. search needs) returns-2)
+    (λ c. search needs) (λ c κs. search needs)
+    (λ c. omega (arith, ltb-false maxLetters (c .before .before .before .before .args .task .letters) (in-range (c .before .before) .1)))
+    (λ c κs. search needs) returns-2)

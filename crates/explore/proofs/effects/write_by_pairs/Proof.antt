@@ -19,9 +19,6 @@ abbrev μ-loop : tie.MeasureT-loop
 loop-holds : tie.Need-loop-holds Inv-loop μ-loop
 loop-holds c = let s = c .before .before .args in (effects-none Pairs (s .memory) (s .first) (s .cells .now) (s .effects .now), refl)
 
-slice-write-effects : tie.Need-slice-write-effects Inv-loop μ-loop
-slice-write-effects c = omega (arith, c .before .before .before .before .before .before .before .pre, c .before .before .before .before .loop .inv .1)
-
 loop-again : tie.Need-loop-again Inv-loop μ-loop
 loop-again c =
     let s = c .before .before .before .before .before .before .before in
@@ -38,5 +35,6 @@ pub write-by-pairs-spec : {M : Type 1} → statement M
 write-by-pairs-spec =
     tie.close
     (tie.spec Inv-loop μ-loop loop-holds (λ c. search needs) (λ c. search needs) (λ c. search needs) (λ c κs. search needs)
-    (λ c κs. (c .before .before .before .before .before .before .pre .0, omega (arith, c .marks-of .ensures))) (λ c. search needs) slice-write-effects
+    (λ c κs. (c .before .before .before .before .before .before .pre .0, omega (arith, c .marks-of .ensures))) (λ c. search needs)
+    (λ c. omega (arith, c .before .before .before .before .before .before .before .pre, c .before .before .before .before .loop .inv .1))
     (λ c. search needs) (λ c. search needs) loop-again (λ c. c .before .loop .inv .1) returns)

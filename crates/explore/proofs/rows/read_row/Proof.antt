@@ -63,15 +63,6 @@ write-effects-requires c κs =
     let s = c .before .before .before .before .before .before .before .before in
     (omega arith, s .pre .0 .most-letters, s .pre .0 .some-letters, row-cells s, omega arith)
 
-loop-holds : tie.Need-loop-holds Inv-loop μ-loop
-loop-holds c = (row-begun _ _ _ _ _ _ _ _ _ _ (c .before .before .before .before .before .before .before .before .before .before .pre .2), refl, refl)
-
-add-read-cell : tie.Need-add-read-cell Inv-loop μ-loop
-add-read-cell c = omega (arith, tests c .0, row-cells (c .before .before .before .before .before .before .before .before .before .before .before .before .before))
-
-mul-read-cell : tie.Need-mul-read-cell Inv-loop μ-loop
-mul-read-cell c = omega (arith, tests c .0, row-cells (c .before .before .before .before .before .before .before .before .before .before .before .before .before))
-
 shared-slice-read-read-cell : tie.Need-shared-slice-read-read-cell Inv-loop μ-loop
 shared-slice-read-read-cell c = omega (arith, tests (c .before) .0, row-cells (c .before .before .before .before .before .before .before .before .before .before .before .before .before .before))
 
@@ -123,8 +114,11 @@ pub read-row-spec : {M : Type 1} → statement M
 read-row-spec =
     tie.close
     (tie.spec Inv-loop μ-loop (λ c. search needs) (λ c. search needs) cast-first
-    (λ c. omega (arith, row-cells (c .before .before .before .before .before .before .before))) (λ c. search needs) write-effects-requires loop-holds
-    add-read-cell mul-read-cell shared-slice-read-read-cell mul-read-cell-2 mul-read-cell-3 array-read-read-cell mul-read-cell-4 add-read-cell-2
-    read-cell-requires add-a loop-less loop-again (λ c. c .before .before .loop .inv .0 .key-rest .size) (λ c. c .before .before .loop .inv .1)
+    (λ c. omega (arith, row-cells (c .before .before .before .before .before .before .before))) (λ c. search needs) write-effects-requires
+    (λ c. (row-begun _ _ _ _ _ _ _ _ _ _ (c .before .before .before .before .before .before .before .before .before .before .pre .2), refl, refl))
+    (λ c. omega (arith, tests c .0, row-cells (c .before .before .before .before .before .before .before .before .before .before .before .before .before)))
+    (λ c. omega (arith, tests c .0, row-cells (c .before .before .before .before .before .before .before .before .before .before .before .before .before)))
+    shared-slice-read-read-cell mul-read-cell-2 mul-read-cell-3 array-read-read-cell mul-read-cell-4 add-read-cell-2 read-cell-requires add-a
+    loop-less loop-again (λ c. c .before .before .loop .inv .0 .key-rest .size) (λ c. c .before .before .loop .inv .1)
     (λ c. c .before .before .loop .inv .2) (λ c. c .before .before .loop .inv .0 .target-rest .size)
     (λ c. c .before .before .loop .inv .0 .priority-rest .size) returns)

@@ -19,9 +19,6 @@ returns-2 c =
     let a = c .before .before .before .args in
     rw (lt-leb (a .n) (a .target) (c .before .before .if1 .left), eq-eqb (getD (a .homes .now) (a .target) 0) (a .home) (c .if2 .taken))
 
-add-result-4 : tie.Need-add-result-4
-add-result-4 c = omega (arith, c .before .before .before .before .pre .3 (c .before .before .before .before .args .target) (c .before .before .before .if1 .left))
-
 returns-3 : tie.Need-returns-3
 returns-3 c =
     let a = c .before .before .before .before .args in
@@ -35,4 +32,6 @@ cell-code-spec =
     (λ c. omega (arith, cut-fits (c))) (λ c. omega (arith, cut-fits (c))) (λ c. omega (arith, cut-fits (c))) (λ c. omega (arith, cut-fits (c)))
     (λ c. omega (arith, cut-fits (c))) (λ c. omega (arith, cut-fits (c))) returns-2
     (λ c. omega (arith, c .before .before .if1 .left, c .before .before .before .pre .0))
-    (λ c. omega (arith, c .before .before .before .if1 .left, c .before .before .before .before .pre .2)) add-result-4 returns-3)
+    (λ c. omega (arith, c .before .before .before .if1 .left, c .before .before .before .before .pre .2))
+    (λ c. omega (arith, c .before .before .before .before .pre .3 (c .before .before .before .before .args .target) (c .before .before .before .if1 .left)))
+    returns-3)

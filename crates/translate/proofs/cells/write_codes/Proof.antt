@@ -23,12 +23,6 @@ loop-holds c =
     let s = c .before .before .before .before .before .before in
     (omega arith, written-none _ _ _ _ _ (zero-mul _) (s .pre .1), refl)
 
-write-row-requires : tie.Need-write-row-requires Inv-loop μ-loop
-write-row-requires c κs = (c .before .before .before .before .before .before .before .before .before .pre .0, c .before .loop-test .taken, c .before .before .loop .inv .1)
-
-add-q : tie.Need-add-q Inv-loop μ-loop
-add-q c = omega (arith, c .before .before .before .before .before .before .before .before .before .before .before .before .pre .0 .few-states)
-
 loop-again : tie.Need-loop-again Inv-loop μ-loop
 loop-again c =
     let i = c .before .before .before .before .before .loop in
@@ -43,4 +37,7 @@ returns c =
 pub write-codes-spec : {M : Type 1} → statement M
 write-codes-spec =
     tie.close
-    (tie.spec Inv-loop μ-loop loop-holds write-row-requires add-q (λ c. search needs) loop-again (λ c. c .before .loop .inv .2) returns)
+    (tie.spec Inv-loop μ-loop loop-holds
+    (λ c κs. (c .before .before .before .before .before .before .before .before .before .pre .0, c .before .loop-test .taken, c .before .before .loop .inv .1))
+    (λ c. omega (arith, c .before .before .before .before .before .before .before .before .before .before .before .before .pre .0 .few-states))
+    (λ c. search needs) loop-again (λ c. c .before .loop .inv .2) returns)

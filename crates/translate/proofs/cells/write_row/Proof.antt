@@ -28,9 +28,6 @@ module _ (c : tie.In-loop Inv-loop μ-loop) where
       (cell (a .m) (a .q) (c .before .loop .a) < a .n * a .m) × (a .n * a .m ≤ length (a .targets .now)) × (a .n * a .m ≤ length (a .marks .now))
   placed = (cell-within _ _ (start .args .q) (c .before .loop .a) (start .pre .1) (c .loop-test .taken), start .pre .0 .target-room, start .pre .0 .mark-room)
 
-mul-home : tie.Need-mul-home Inv-loop μ-loop
-mul-home c = omega (arith, c .before .before .before .before .before .before .pre .1, c .before .before .before .before .before .before .pre .0 .few-states)
-
 shared-slice-read-home : tie.Need-shared-slice-read-home Inv-loop μ-loop
 shared-slice-read-home c = omega (arith, c .before .before .before .before .before .before .before .pre .1, c .before .before .before .before .before .before .before .pre .0 .home-room)
 
@@ -51,9 +48,6 @@ cell-code-requires c κs =
     let r = c .before .before .before .before .before .before .before .before .before .before .before .before .pre .0 in
     (r .few-states, r .home-room, r .key-room, r .small-keys)
 
-slice-write-cells : tie.Need-slice-write-cells Inv-loop μ-loop
-slice-write-cells c = omega (arith, placed (c .before .before .before), c .before .before .before .before .loop .inv .1 .enough)
-
 loop-again : tie.Need-loop-again Inv-loop μ-loop
 loop-again c =
     let u : tie.In-loop Inv-loop μ-loop = c .before .before .before in
@@ -71,8 +65,11 @@ returns c =
 pub write-row-spec : {M : Type 1} → statement M
 write-row-spec =
     tie.close
-    (tie.spec Inv-loop μ-loop mul-home shared-slice-read-home shared-slice-read-pairs mul-first loop-holds (λ c. omega (arith, placed (c)))
-    (λ c. omega (arith, placed (c))) (λ c. omega (arith, placed (c .before))) (λ c. omega (arith, placed (c .before)))
-    (λ c. omega (arith, placed (c .before))) (λ c. omega (arith, placed (c .before .before))) cell-code-requires
-    (λ c. omega (arith, placed (c .before .before .before))) (λ c. omega (arith, placed (c .before .before .before))) slice-write-cells
+    (tie.spec Inv-loop μ-loop
+    (λ c. omega (arith, c .before .before .before .before .before .before .pre .1, c .before .before .before .before .before .before .pre .0 .few-states))
+    shared-slice-read-home shared-slice-read-pairs mul-first loop-holds (λ c. omega (arith, placed (c))) (λ c. omega (arith, placed (c)))
+    (λ c. omega (arith, placed (c .before))) (λ c. omega (arith, placed (c .before))) (λ c. omega (arith, placed (c .before)))
+    (λ c. omega (arith, placed (c .before .before))) cell-code-requires (λ c. omega (arith, placed (c .before .before .before)))
+    (λ c. omega (arith, placed (c .before .before .before)))
+    (λ c. omega (arith, placed (c .before .before .before), c .before .before .before .before .loop .inv .1 .enough))
     (λ c. omega (arith, placed (c .before .before .before))) (λ c. search needs) loop-again (λ c. c .before .loop .inv .2) returns)

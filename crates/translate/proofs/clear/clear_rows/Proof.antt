@@ -9,15 +9,11 @@ use Rattle.translate.proofs.clear.clear_rows.Tie as tie
 cells-before : (s : tie.Start) → s .args .from * s .args .m ≤ s .args .capacity * s .args .m
 cells-before s = mul-le-mul-right (s .args .m) (s .pre .1)
 
-mul-clear-u8 : tie.Need-mul-clear-u8
-mul-clear-u8 c = omega (arith, cells-before (c .before .before .before .before .before .before .before .before .before))
-
-clear-u8-requires : tie.Need-clear-u8-requires
-clear-u8-requires c κs = omega (arith, cells-before (c .before .before .before .before .before .before .before .before .before))
-
 pub clear-rows-spec : {M : Type 1} → statement M
 clear-rows-spec =
     tie.close
     (tie.spec (λ c. omega (arith, cells-before (c .before .before .before .before .before))) (λ c. search needs)
-    (λ c κs. omega (arith, cells-before (c .before .before .before .before .before))) mul-clear-u8 (λ c. search needs) clear-u8-requires
-    (λ c κs. search needs) (λ c κs. search needs) (λ c. search needs) (λ c. search needs) (λ c. search needs) (λ c. search needs) (λ c. search needs))
+    (λ c κs. omega (arith, cells-before (c .before .before .before .before .before)))
+    (λ c. omega (arith, cells-before (c .before .before .before .before .before .before .before .before .before))) (λ c. search needs)
+    (λ c κs. omega (arith, cells-before (c .before .before .before .before .before .before .before .before .before))) (λ c κs. search needs)
+    (λ c κs. search needs) (λ c. search needs) (λ c. search needs) (λ c. search needs) (λ c. search needs) (λ c. search needs))
