@@ -1,6 +1,7 @@
 -- From what the exploration found to what the translator promises.
---     lay-fault                with an entry for each cell that a table can have, laying out refuses nothing but the table
---     laid-table               what is laid out of a table that is taken
+--     lay-fault                with room for the cells of a table that is taken, laying out refuses nothing but the table
+--     few-fit, many-fit        there is such room in small arrays for a table of few bytes, in large ones for any
+--     laid-table, laid-fit     what is laid out of a table that is taken, and that there is room for its codes
 --     tooShort bs c a b d e    the capacity c or one of the lent arrays is out of range, for the table that the bytes say
 --     has-room                 what holds where nothing is too short
 --     kept-few, kept-sources   no more rows are kept than there is room for, and their source states are bytes
@@ -43,7 +44,7 @@ use Rattle.explore.specs.Effects.{keyPlan}
 use Rattle.explore.specs.Exploring.{Leaves}
 use Rattle.translate.specs.Arrays.{RowsCleared}
 use Rattle.translate.specs.Keys.{keyRow, IsKey}
-use Rattle.translate.specs.Cells.{taskOf, LaidTable}
+use Rattle.translate.specs.Cells.{taskOf, LaidTable, fewBytes, CellsFit}
 use Rattle.translate.specs.Rows.{TableExplored, Unpacked, refusalOf, rowsKept}
 use Rattle.translate.proofs.Coding.{table-codes, table-fit}
 
@@ -55,23 +56,35 @@ first-only : (x r : ℕ) → (x ≡ 0 → r ≡ 0) → firstOf x r ≡ x
 first-only zero r h = h refl
 first-only (suc x) r h = refl
 
-pub lay-fault : (bs : List ℕ) → layFault bs maxCells maxCells ≡ tableFault bs
-lay-fault bs =
-    first-only (tableFault bs) _ (λ z. rw (le-ltb maxCells (tableOf bs .states * tableOf bs .letters) (taken-table bs z .sizes .most-cells)))
+pub lay-fault : (bs : List ℕ) (a b d : ℕ) → (Taken bs → CellsFit (tableOf bs) a b d) → layFault bs a b ≡ tableFault bs
+lay-fault bs a b d fit =
+    let cells = tableOf bs .states * tableOf bs .letters in
+    first-only (tableFault bs) _ (λ z. rw (le-ltb a cells (fit z .targets), le-ltb b cells (fit z .marks)))
+
+-- the cells of a table of few bytes, and of any
+pub few-fit : (bs : List ℕ) → length bs ≤ fewBytes → Taken bs → CellsFit (tableOf bs) 64 64 64
+few-fit bs l taken =
+    let e = taken-table bs taken .exact in record { targets = omega arith; marks = omega arith; codes = omega arith }
+
+pub many-fit : (bs : List ℕ) → Taken bs → CellsFit (tableOf bs) maxCells maxCells maxCells
+many-fit bs taken = let l = taken-table bs taken .sizes .most-cells in record { targets = l; marks = l; codes = l }
 
 -- what is laid out of a table that is taken
-pub laid-table : (bs ts ts′ ms ms′ : List ℕ) (number states letters start : ℕ) → Taken bs → number ≡ 0 → length ts′ ≡ maxCells → length ms′ ≡ maxCells
+pub laid-table : (bs ts ts′ ms ms′ : List ℕ) (number states letters start : ℕ) → Taken bs → number ≡ 0
+    → tableOf bs .states * tableOf bs .letters ≤ length ts′ → tableOf bs .states * tableOf bs .letters ≤ length ms′
     → LaySays bs ts ts′ ms ms′ number states letters start → LaidTable (tableOf bs) states letters start ts′ ms′
 laid-table bs ts ts′ ms ms′ number states letters start taken z lt lm s =
-    let sizes = taken-table bs taken .sizes .most-cells in
     record {
       good = is-table bs taken;
       states = rw z at (s .state-count);
       letters = rw z at (s .letter-count);
       start-state = rw z at (s .start-state);
-      targets = targets-laid bs taken ts ts′ (omega arith) (rw z at (s .target-array));
-      marks = marks-laid bs taken ms ms′ (omega arith) (rw z at (s .mark-array));
+      targets = targets-laid bs taken ts ts′ lt (rw z at (s .target-array));
+      marks = marks-laid bs taken ms ms′ lm (rw z at (s .mark-array));
     }
+
+pub laid-fit : (t : Table) (states letters start : ℕ) (ts ms : List ℕ) (a b d : ℕ) → LaidTable t states letters start ts ms → CellsFit t a b d → states * letters ≤ d
+laid-fit t states letters start ts ms a b d laid fit = rw (laid .states, laid .letters) (fit .codes)
 
 -- ---- the returns
 abbrev pub tooShort : List ℕ → ℕ → List ℕ → List ℕ → List ℕ → List ℕ → Bool

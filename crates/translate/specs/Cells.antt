@@ -11,6 +11,8 @@
 --     Written n m f p cells      the cells below p hold what f says of their state and letter
 --     LaidTable t n m start ts ms    t is a table with these sizes and this start, and the arrays hold its cells
 --     TableCodes t cells   the codes of all cells, and nothing behind them
+--     fewBytes             the bytes of a table whose cells small arrays have room for
+--     CellsFit t a b d     there is room for the cells of t in arrays of a targets, b marks and d codes
 use mathlib.Core.Path.{_≡_}
 use mathlib.Core.Bool.{Bool, _&&_}
 use mathlib.Core.List.{List}
@@ -80,3 +82,11 @@ pub record LaidTable (t : Table) (n m start : ℕ) (ts ms : List ℕ) : Type 0 w
 pub record TableCodes (t : Table) (cells : List ℕ) : Type 0 where
   pub size : length cells ≡ t .states * t .letters
   pub entry : (q a : ℕ) → q < t .states → a < t .letters → getD cells (cell (t .letters) q a) 0 ≡ cellCode t q a
+
+abbrev pub fewBytes : ℕ
+fewBytes = 196
+
+pub record CellsFit (t : Table) (a b d : ℕ) : Type 0 where
+  pub targets : t .states * t .letters ≤ a
+  pub marks : t .states * t .letters ≤ b
+  pub codes : t .states * t .letters ≤ d

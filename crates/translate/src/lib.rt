@@ -3,6 +3,7 @@
 // the promise `TranslateSays` of the rules, and with it demand 3 of the arrays as they are left, `TranslationAgrees`.
 use explore::Explored;
 use explore::are_short;
+use rules::limit::HEADER_SIZE;
 use rules::limit::MAX_LETTERS;
 use rules::limit::MAX_STATES;
 use rules::refusal;
@@ -14,7 +15,17 @@ mod rows;
 
 ghost use mathlib.Core.Path.{_≡_};
 ghost use Rattle.rules.specs.Says.{TranslateSays, TranslationAgrees};
+ghost use Prim.Native.Nat.{_≤_};
+ghost use lib.ListN.{length};
+ghost use Rattle.rules.specs.Tables.{tableOf};
+ghost use Rattle.tables.specs.Parts.{Taken};
+ghost use Rattle.translate.specs.Cells.{fewBytes, CellsFit};
 ghost use Rattle.translate.specs.Rows.{refusalOf, rowsKept};
+
+// The cells for which small arrays are enough, and the bytes of a table with so many.
+const FEW_CELLS: usize = 64;
+
+const FEW_BYTES: usize = HEADER_SIZE + 3 * FEW_CELLS;
 
 // The refusal or 0, and the number of rows, 0 on a refusal.
 #[repr(C)]
@@ -45,8 +56,11 @@ fn rows_kept(explored: Explored) -> usize
     }
 }
 
-// The parity table of a Rabin table, in the lent arrays.
-pub fn translate_table(
+// Translates with lent arrays for the cells of the table: their targets, their marks and their codes.
+fn translate_in(
+    cell_targets: &mut [u16],
+    cell_marks: &mut [u16],
+    cells: &mut [u32],
     table: &[u8],
     capacity: usize,
     targets: &mut [u16],
@@ -54,12 +68,11 @@ pub fn translate_table(
     sources: &mut [u8],
     records: &mut [u32],
 ) -> Translation
+    requires { ⌜ (Taken (now table) → CellsFit (tableOf (now table)) (length (now «cell_targets»)) (length (now «cell_marks»)) (length (now cells))) ⌝ }
     ensures says { λ r. ⌜ TranslateSays (now (table .entry)) capacity (now (targets .entry)) (now (targets .exit)) (now (priorities .entry)) (now (priorities .exit)) (now (sources .entry)) (now (sources .exit)) (now (records .entry)) (now (records .exit)) (r .number) (r .rows) ⌝ }
     ensures agrees { λ r. ⌜ TranslationAgrees (now (table .entry)) (now (targets .exit)) (now (priorities .exit)) (now (sources .exit)) (r .number) (r .rows) ⌝ }
 {
-    let mut cell_targets = [0; MAX_STATES as usize * MAX_LETTERS as usize];
-    let mut cell_marks = [0; MAX_STATES as usize * MAX_LETTERS as usize];
-    let laid = lay_table(table, &mut cell_targets, &mut cell_marks);
+    let laid = lay_table(table, cell_targets, cell_marks);
     if laid.number != 0 {
         return Translation {
             number: laid.number,
@@ -84,8 +97,9 @@ pub fn translate_table(
     // the keys of the rows stand in the array of record numbers until they are unpacked
     let explored = rows::explore_table(
         laid,
-        &cell_targets,
-        &cell_marks,
+        cell_targets,
+        cell_marks,
+        cells,
         capacity,
         records,
         targets,
@@ -104,4 +118,80 @@ pub fn translate_table(
     );
     let number = refusal_of(explored);
     Translation { number, rows }
+}
+
+// Translates a table of few bytes.
+fn translate_few(
+    table: &[u8],
+    capacity: usize,
+    targets: &mut [u16],
+    priorities: &mut [u8],
+    sources: &mut [u8],
+    records: &mut [u32],
+) -> Translation
+    requires { ⌜ length (now table) ≤ fewBytes ⌝ }
+    ensures says { λ r. ⌜ TranslateSays (now (table .entry)) capacity (now (targets .entry)) (now (targets .exit)) (now (priorities .entry)) (now (priorities .exit)) (now (sources .entry)) (now (sources .exit)) (now (records .entry)) (now (records .exit)) (r .number) (r .rows) ⌝ }
+    ensures agrees { λ r. ⌜ TranslationAgrees (now (table .entry)) (now (targets .exit)) (now (priorities .exit)) (now (sources .exit)) (r .number) (r .rows) ⌝ }
+{
+    let mut cell_targets = [0; FEW_CELLS];
+    let mut cell_marks = [0; FEW_CELLS];
+    let mut cells = [0; FEW_CELLS];
+    translate_in(
+        &mut cell_targets,
+        &mut cell_marks,
+        &mut cells,
+        table,
+        capacity,
+        targets,
+        priorities,
+        sources,
+        records,
+    )
+}
+
+// Translates any table.
+fn translate_many(
+    table: &[u8],
+    capacity: usize,
+    targets: &mut [u16],
+    priorities: &mut [u8],
+    sources: &mut [u8],
+    records: &mut [u32],
+) -> Translation
+    ensures says { λ r. ⌜ TranslateSays (now (table .entry)) capacity (now (targets .entry)) (now (targets .exit)) (now (priorities .entry)) (now (priorities .exit)) (now (sources .entry)) (now (sources .exit)) (now (records .entry)) (now (records .exit)) (r .number) (r .rows) ⌝ }
+    ensures agrees { λ r. ⌜ TranslationAgrees (now (table .entry)) (now (targets .exit)) (now (priorities .exit)) (now (sources .exit)) (r .number) (r .rows) ⌝ }
+{
+    let mut cell_targets = [0; MAX_STATES as usize * MAX_LETTERS as usize];
+    let mut cell_marks = [0; MAX_STATES as usize * MAX_LETTERS as usize];
+    let mut cells = [0; MAX_STATES as usize * MAX_LETTERS as usize];
+    translate_in(
+        &mut cell_targets,
+        &mut cell_marks,
+        &mut cells,
+        table,
+        capacity,
+        targets,
+        priorities,
+        sources,
+        records,
+    )
+}
+
+// The parity table of a Rabin table, in the lent arrays. For few cells clearing the arrays of all that a table can have would take longer than
+// the rest.
+pub fn translate_table(
+    table: &[u8],
+    capacity: usize,
+    targets: &mut [u16],
+    priorities: &mut [u8],
+    sources: &mut [u8],
+    records: &mut [u32],
+) -> Translation
+    ensures says { λ r. ⌜ TranslateSays (now (table .entry)) capacity (now (targets .entry)) (now (targets .exit)) (now (priorities .entry)) (now (priorities .exit)) (now (sources .entry)) (now (sources .exit)) (now (records .entry)) (now (records .exit)) (r .number) (r .rows) ⌝ }
+    ensures agrees { λ r. ⌜ TranslationAgrees (now (table .entry)) (now (targets .exit)) (now (priorities .exit)) (now (sources .exit)) (r .number) (r .rows) ⌝ }
+{
+    if table.len() <= FEW_BYTES {
+        return translate_few(table, capacity, targets, priorities, sources, records);
+    }
+    translate_many(table, capacity, targets, priorities, sources, records)
 }

@@ -7,7 +7,6 @@ use explore::Task;
 use explore::codes::SPAN;
 use explore::find_rows;
 use records::Record;
-use rules::limit::MAX_LETTERS;
 use rules::limit::MAX_STATES;
 use tables::Laid;
 use tables::survey_cells;
@@ -19,17 +18,18 @@ ghost use Rattle.explore.specs.Cells.{sourceIn};
 ghost use Rattle.translate.specs.Cells.{LaidTable};
 ghost use Rattle.translate.specs.Rows.{TableExplored, Unpacked};
 
-// Finds the rows of a laid-out table.
+// Finds the rows of a laid-out table. The codes of the cells go into a lent array.
 pub(crate) fn explore_table(
     laid: Laid,
     cell_targets: &[u16],
     cell_marks: &[u16],
+    cells: &mut [u32],
     capacity: usize,
     keys: &mut [u32],
     targets: &mut [u16],
     priorities: &mut [u8],
 ) -> Explored
-    requires { ⌜ ((t : Table) × LaidTable t (laid .states) (laid .letters) (laid .start) (now «cell_targets») (now «cell_marks»)) ⌝ }
+    requires { ⌜ ((t : Table) × LaidTable t (laid .states) (laid .letters) (laid .start) (now «cell_targets») (now «cell_marks»)) × (laid .states * laid .letters ≤ length (now cells)) ⌝ }
     ensures { λ r. ⌜ ((t : Table) → LaidTable t (laid .states) (laid .letters) (laid .start) (now («cell_targets» .entry)) (now («cell_marks» .entry)) → TableExplored t capacity (now (keys .entry)) (now (keys .exit)) (now (targets .entry)) (now (targets .exit)) (now (priorities .entry)) (now (priorities .exit)) r) ⌝ }
 {
     let states = laid.states;
@@ -38,7 +38,6 @@ pub(crate) fn explore_table(
     let mut homes = [0; MAX_STATES as usize];
     let mut counted = [0; MAX_STATES as usize];
     let mut entries = [0; MAX_STATES as usize];
-    let mut cells = [0; MAX_STATES as usize * MAX_LETTERS as usize];
     survey_cells(
         states,
         letters,
@@ -56,7 +55,7 @@ pub(crate) fn explore_table(
         &homes,
         &counted,
         &entries,
-        &mut cells,
+        cells,
     );
     let used = states * letters;
     let rule = Rule::Pairs;
