@@ -2,7 +2,7 @@
 --     cellsFit n m t           n states and m letters are few enough, and t targets are enough for their cells
 --     workFits n a b c d e     five arrays have an entry for each state
 --     componentsFit n m ..     a search for components can begin: sizes, targets, five arrays to work in, and that of the results
---     ComponentsFound n m ..   the smallest state of each state's component at the front of `out`, what stands behind untouched
+--     ComponentsFound n m ..   the smallest state of each state's component at the front of `out`, entries past the states untouched
 --     reachFits n m ..         a search from a state can begin
 --     ReachFound n m from ..   exactly the states that `from` reaches are met, each with the place that it was met from and the letter
 --     PathFound place ..       where a search has left parents and letters: the end of `out`, from the result on, is a path to the state at the place

@@ -6,12 +6,12 @@
 --     IsTable t              the sizes of t are in range, its start is a state, and no marks have a bit above its pairs
 --     countedPairs t q       the pairs that count in q's component, as bits: bit i - 1 for pair i
 --     layFault bs a b        the table's refusals, then 7 where an array of a or of b entries is too short for its cells
---     LaySays bs ..          laying out: both arrays, what stands behind untouched, and the sizes; on a refusal nothing is written and all sizes are 0
+--     LaySays bs ..          laying out: both arrays, entries past the cells untouched, and the sizes; on a refusal nothing is written and all sizes are 0
 --     surveyFits n m ..      the sizes are in range, and the arrays have room for the cells and the states
 --     requiredIn m ms i      the test that bit i stands for: the transition of p by a, if it is inside, makes pair i + 1 count
 --     pairBits               how many bits a set of pairs has
 --     countedIn n m ts ms q  the pairs that count in q's component, as bits, by the laid-out cells
---     SurveySays n m ..      surveying: both arrays, what stands behind untouched; where something does not fit nothing is written
+--     SurveySays n m ..      surveying: both arrays, entries past the states untouched; where something does not fit nothing is written
 use mathlib.Core.Path.{_≡_}
 use mathlib.Core.Bool.{Bool, _&&_, _||_}
 use mathlib.Core.List.{List}
