@@ -26,9 +26,9 @@ use Rattle.explore.specs.declared.Task.{Task}
 use Rattle.explore.specs.declared.Explored.the-variants.{Rows, Full, Unfit}
 use Rattle.explore.specs.Cells.{sourceIn, strays}
 use Rattle.explore.specs.Effects.{keyPlan}
-use Rattle.explore.specs.Exploring.{statesIn, isUnfit, Closed, Room, Begun, RowsPart, RowsSay, FewSay, fewRows, fewLimit, ExploresAll, ExploreSays}
+use Rattle.explore.specs.Exploring.{statesIn, isUnfit, Closed, Room, Stage, RowsPart, RowsSay, fewRows, fewLimit, ExploresAll, ExploreSays}
 use Rattle.rules.proofs.Filling.{beyond-then, beyond-wider, cells-over, front-over}
-use Rattle.explore.proofs.Rounds.{all-read, all-over}
+use Rattle.explore.proofs.Rounds.{stage-wider, all-read, all-over}
 
 -- ---- what can be explored
 pub has-room : (m c : ℕ) (ts ps keys : List ℕ) → areShort c m (length ts) (length ps) (length keys) (length keys) ≡ false → Room m c ts ps keys
@@ -77,19 +77,19 @@ module _ (t : Task) (cells : List ℕ) where
   end-reached l i r within few ended =
       by (ltb i r) (λ e. absurd (omega (arith, leb-false r l (rw e at ended)))) (λ e. omega (arith, ltb-false i r e))
 
-  part-read : (c c₀ i r : ℕ) (keys keys′ heads′ links′ ts ts′ ps ps′ : List ℕ) → i ≡ r → r ≤ c₀ → r ≤ c → RowsPart t cells c₀ i keys keys′ heads′ links′ ts ts′ ps ps′ r
+  part-read : (c c₀ i r : ℕ) (keys keys′ ts ts′ ps ps′ : List ℕ) → i ≡ r → r ≤ c₀ → r ≤ c → RowsPart t cells c₀ i keys keys′ ts ts′ ps ps′ r
       → ExploresAll t cells c keys keys′ ts ts′ ps ps′ r
-  part-read c c₀ i r keys keys′ heads′ links′ ts ts′ ps ps′ z l few part =
+  part-read c c₀ i r keys keys′ ts ts′ ps ps′ z l few part =
       let p = rw z at part in
-      all-read t cells c keys ts ps c₀ r keys′ heads′ links′ ts′ ps′ few (p .stage l) (p .new-rest l) (p .target-rest) (p .priority-rest)
+      all-read t cells c keys ts ps c₀ r keys′ ts′ ps′ few (p .stage l) (p .new-rest l) (p .target-rest) (p .priority-rest)
 
-  pub rows-done : (n c i : ℕ) (keys keys′ heads′ links′ ts ts′ ps ps′ : List ℕ) (r : ℕ) → RowsSay t cells n c c i keys keys′ heads′ links′ ts ts′ ps ps′ r
+  pub rows-done : (n c i : ℕ) (keys keys′ ts ts′ ps ps′ : List ℕ) (r : ℕ) → RowsSay t cells n c c i keys keys′ ts ts′ ps ps′ r
       → ExploresAll t cells c keys keys′ ts ts′ ps ps′ r
-  rows-done n c i keys keys′ heads′ links′ ts ts′ ps ps′ r s =
+  rows-done n c i keys keys′ ts ts′ ps ps′ r s =
       by
       (ltb c r)
-      (λ e. all-over t cells c keys ts ps i r keys′ heads′ links′ ts′ ps′ (ltb-true c r e) (s .part))
-      (λ e. let few = ltb-false c r e in part-read c c i r keys keys′ heads′ links′ ts ts′ ps ps′ (end-reached c i r (s .part .stage few .within) few (s .ended)) few few (s .part))
+      (λ e. all-over t cells c keys ts ps i r keys′ ts′ ps′ (ltb-true c r e) (s .part))
+      (λ e. let few = ltb-false c r e in part-read c c i r keys keys′ ts ts′ ps ps′ (end-reached c i r (s .part .stage few .within) few (s .ended)) few few (s .part))
 
   -- with a small index first
   pub room-narrow : (c : ℕ) (ts ps keys : List ℕ) → Room (t .letters) c ts ps keys
@@ -101,7 +101,7 @@ module _ (t : Task) (cells : List ℕ) where
       let cells-few : fewRows * t .letters ≤ c * t .letters = mul-le-mul wide (omega arith) in
       rw (e, le-ltb c fewLimit (omega arith)) (record { some-rows = omega arith; most-rows = omega arith; target-room = omega (arith, room .target-room); priority-room = omega (arith, room .priority-room); key-room = omega (arith, room .key-room) }, omega arith, omega arith))
 
-  module _ (c : ℕ) (letters : t .letters ≤ maxLetters) (i : ℕ) (keys keys′ ts ts′ ps ps′ : List ℕ) (r : ℕ) (s : FewSay t cells (pick (ltb c fewLimit) c fewLimit) (pick (ltb c fewRows) c fewRows) i keys keys′ ts ts′ ps ps′ r) where
+  module _ (c : ℕ) (letters : t .letters ≤ maxLetters) (i : ℕ) (keys keys′ ts ts′ ps ps′ : List ℕ) (r : ℕ) (s : RowsSay t cells 1 (pick (ltb c fewLimit) c fewLimit) (pick (ltb c fewRows) c fewRows) i keys keys′ ts ts′ ps ps′ r) where
     room : ℕ
     room = pick (ltb c fewRows) c fewRows
 
@@ -114,26 +114,26 @@ module _ (t : Task) (cells : List ℕ) where
     unfolding room
     few h =
         by (ltb c fewRows) (λ e. rw e h)
-        (λ e. let l = ltb-false c fewRows e in let most = rw (le-ltb c fewLimit (omega arith)) at (s .says .most) in rw e (omega arith))
+        (λ e. let l = ltb-false c fewRows e in let most = rw (le-ltb c fewLimit (omega arith)) at (s .most) in rw e (omega arith))
 
-    part : RowsPart t cells room i keys keys′ (s .heads) (s .links) ts ts′ ps ps′ r
+    part : RowsPart t cells room i keys keys′ ts ts′ ps ps′ r
     unfolding room
-    part = s .says .part
+    part = s .part
 
     pub few-done : i ≡ r → ExploresAll t cells c keys keys′ ts ts′ ps ps′ r
     few-done z =
         let l : r ≤ room = omega (arith, part .few) in
-        part-read c room i r keys keys′ (s .heads) (s .links) ts ts′ ps ps′ z l (omega (arith, room-few)) part
+        part-read c room i r keys keys′ ts ts′ ps ps′ z l (omega (arith, room-few)) part
 
     pub few-over : c < r → ExploresAll t cells c keys keys′ ts ts′ ps ps′ r
     few-over more =
         by
         (ltb c fewRows)
-        (λ e. all-over t cells c keys ts ps i r keys′ (s .heads) (s .links) ts′ ps′ more (rw e at (s .says .part)))
-        (λ e. let l = ltb-false c fewRows e in let most = rw (le-ltb c fewLimit (omega arith)) at (s .says .most) in absurd (omega arith))
+        (λ e. all-over t cells c keys ts ps i r keys′ ts′ ps′ more (rw e at (s .part)))
+        (λ e. let l = ltb-false c fewRows e in let most = rw (le-ltb c fewLimit (omega arith)) at (s .most) in absurd (omega arith))
 
-    pub few-begun : r ≤ c → Begun t cells c i r keys′ ts′ ps′
-    few-begun h = record { room = room; heads = s .heads; links = s .links; within = room-few; stage = part .stage (few h) }
+    pub few-begun : Room (t .letters) c ts′ ps′ keys′ → r ≤ c → Stage t cells c i r keys′ ts′ ps′
+    few-begun wide h = stage-wider t cells room c i r keys′ ts′ ps′ room-few wide (part .stage (few h))
 
     pub many-after : r ≤ c → (keys″ ts″ ps″ : List ℕ) (r′ : ℕ) → r ≤ r′ → ExploresAll t cells c keys′ keys″ ts′ ts″ ps′ ps″ r′
         → ExploresAll t cells c keys keys″ ts ts″ ps ps″ r′

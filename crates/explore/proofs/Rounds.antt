@@ -3,7 +3,7 @@
 --     row-begun, row-next, row-done     no letter; one letter more; all letters, or more rows than there is room for
 --     stage-begun           the first row is known, and none is read
 --     part-begun, part-after, rows-next     no row more than at a stage is read; the first row was filed before; one row more
---     stage-wider           a stage with another index, and room for more rows
+--     stage-wider           a stage with room for more rows
 --     all-read, all-over    all rows are read; more than the capacity were found
 use mathlib.Core.Path.{_≡_, refl, sym, ap, _∙_}
 use mathlib.Core.Bool.{false, _&&_, and-false}
@@ -13,7 +13,7 @@ use native.Mathlib.Nat.{suc-mul, zero-mul, mul-le-mul}
 use native.Mathlib.Numerals.{add-one}
 use native.Mathlib.Omega.{arith}
 use lib.Dec.{ltb, leb}
-use lib.ListN.{length, getD, take}
+use lib.ListN.{length, getD, set, take, length-set}
 use lib.Seq.{getD-set-same, length-take-le, take-suc-set}
 use borrow.Author.Tests.{ltb-false, lt-ltb, le-ltb, leb-false, le-leb, lt-leb}
 use Rattle.rules.specs.Limits.{noRow}
@@ -23,17 +23,16 @@ use Rattle.rules.proofs.Bools.{by, and-both}
 use Rattle.rules.proofs.Exploration.{met-longer, by-next, by-grows, from-on, from-stop}
 use Rattle.explore.specs.declared.Task.{Task}
 use Rattle.rules.specs.Arrays.{Beyond}
-use Rattle.explore.specs.Index.{Indexed}
-use Rattle.explore.specs.Filing.{Settles}
+use Rattle.explore.specs.Filing.{Filed}
 use Rattle.explore.specs.Effects.{keyStep, keyPlan}
 use Rattle.explore.specs.Exploring.{Fits, Closed, Room, StepRead, Known, RowSays, Stage, RowsPart, ExploresAll}
 use Rattle.rules.proofs.Filling.{beyond-none, beyond-set, beyond-then, beyond-wider}
 use Rattle.rules.proofs.Reading.{read-none}
 use Rattle.explore.proofs.Steps.{keyed-same, key-row, step-count, step-most, step-rows, step-front, step-rest, step-known}
 
-pub record RowPart (t : Task) (cells : List ℕ) (c n i a : ℕ) (keys keys′ heads′ links′ ts ts′ ps ps′ : List ℕ) (r : ℕ) : Type 0 where
+pub record RowPart (t : Task) (cells : List ℕ) (c n i a : ℕ) (keys keys′ ts ts′ ps ps′ : List ℕ) (r : ℕ) : Type 0 where
   pub letters : a ≤ t .letters
-  pub known : r ≤ c → Known t cells c r (cell (t .letters) i a) keys′ heads′ links′ ts′ ps′
+  pub known : r ≤ c → Known t cells c r (cell (t .letters) i a) keys′ ts′ ps′
   pub rows : r ≤ c → take r keys′ ≡ foundBy a 0 (keyPlan t cells) (getD keys i 0) (take n keys)
   pub over : c < r → c < length (foundBy a 0 (keyPlan t cells) (getD keys i 0) (take n keys))
   pub longer : n ≤ r
@@ -61,8 +60,8 @@ module _ (t : Task) (cells : List ℕ) where
     abbrev v : ℕ
     v = getD keys i 0
 
-    pub row-begun : (heads links : List ℕ) → Known t cells c n (i * m) keys heads links ts ps → RowPart t cells c n i 0 keys keys heads links ts ts ps ps n
-    row-begun heads links k =
+    pub row-begun : Known t cells c n (i * m) keys ts ps → RowPart t cells c n i 0 keys keys ts ts ps ps n
+    row-begun k =
         let e : i * m ≡ cell m i 0 = omega arith in
         record {
           letters = omega arith;
@@ -78,29 +77,29 @@ module _ (t : Task) (cells : List ℕ) where
           priority-rest = beyond-none (suc i * m) ps;
         }
 
-    pub row-next : (a r r′ : ℕ) (keys₁ heads₁ links₁ ts₁ ps₁ keys₂ heads₂ links₂ ts₂ ps₂ : List ℕ) → Closed t cells → i < n → a < m → r ≤ c
-        → RowPart t cells c n i a keys keys₁ heads₁ links₁ ts ts₁ ps ps₁ r
-        → (x : Step ℕ) → x ≡ g .step (getD keys₁ i 0) a → StepRead x c r (cell m i a) keys₁ keys₂ heads₂ links₂ ts₁ ts₂ ps₁ ps₂ r′
-        → RowPart t cells c n i (a + 1) keys keys₂ heads₂ links₂ ts ts₂ ps ps₂ r′
-    row-next a r r′ keys₁ heads₁ links₁ ts₁ ps₁ keys₂ heads₂ links₂ ts₂ ps₂ closed li la few f x same x-read =
+    pub row-next : (a r r′ : ℕ) (keys₁ ts₁ ps₁ keys₂ ts₂ ps₂ : List ℕ) → Closed t cells → i < n → a < m → r ≤ c
+        → RowPart t cells c n i a keys keys₁ ts ts₁ ps ps₁ r
+        → (x : Step ℕ) → x ≡ g .step (getD keys₁ i 0) a → StepRead x c r (cell m i a) keys₁ keys₂ ts₁ ts₂ ps₁ ps₂ r′
+        → RowPart t cells c n i (a + 1) keys keys₂ ts ts₂ ps ps₂ r′
+    row-next a r r′ keys₁ ts₁ ps₁ keys₂ ts₂ ps₂ closed li la few f x same x-read =
         record {
           letters = omega arith;
-          known = λ h. rw next-cell at (step-known t cells closed c r i a keys₁ heads₁ links₁ ts₁ ps₁ lr la k keys₂ heads₂ links₂ ts₂ ps₂ r′ s h);
-          rows = λ h. step-rows t cells closed c r i a keys₁ heads₁ links₁ ts₁ ps₁ lr la k keys₂ heads₂ links₂ ts₂ ps₂ r′ s h ∙ met-next;
+          known = λ h. rw next-cell at (step-known t cells closed c r i a keys₁ ts₁ ps₁ lr la k keys₂ ts₂ ps₂ r′ s h);
+          rows = λ h. step-rows t cells closed c r i a keys₁ ts₁ ps₁ lr la k keys₂ ts₂ ps₂ r′ s h ∙ met-next;
           over = λ h. rw (← met-next, ← count) h;
           longer = omega (arith, grown, f .longer);
-          most = omega (arith, step-most t cells closed c r i a keys₁ heads₁ links₁ ts₁ ps₁ lr la k keys₂ heads₂ links₂ ts₂ ps₂ r′ s, f .most);
-          front = λ h. step-front t cells closed c r i a keys₁ heads₁ links₁ ts₁ ps₁ lr la k keys₂ heads₂ links₂ ts₂ ps₂ r′ s h i lr ∙ f .front few;
+          most = omega (arith, step-most t cells closed c r i a keys₁ ts₁ ps₁ lr la k keys₂ ts₂ ps₂ r′ s, f .most);
+          front = λ h. step-front t cells closed c r i a keys₁ ts₁ ps₁ lr la k keys₂ ts₂ ps₂ r′ s h i lr ∙ f .front few;
           key-rest = beyond-then (f .key-rest) (s .key-rest);
-          new-rest = λ h. beyond-then (beyond-wider grown (f .new-rest few)) (step-rest t cells closed c r i a keys₁ heads₁ links₁ ts₁ ps₁ lr la k keys₂ heads₂ links₂ ts₂ ps₂ r′ s h);
+          new-rest = λ h. beyond-then (beyond-wider grown (f .new-rest few)) (step-rest t cells closed c r i a keys₁ ts₁ ps₁ lr la k keys₂ ts₂ ps₂ r′ s h);
           target-rest = beyond-then (f .target-rest) (rw (s .target-array) (beyond-set (suc i * m) ts₁ (cell m i a) _ within));
           priority-rest = beyond-then (f .priority-rest) (rw (s .priority-array) (beyond-set (suc i * m) ps₁ (cell m i a) _ within));
         }
       where
-        s : StepRead (g .step (getD keys₁ i 0) a) c r (cell m i a) keys₁ keys₂ heads₂ links₂ ts₁ ts₂ ps₁ ps₂ r′
+        s : StepRead (g .step (getD keys₁ i 0) a) c r (cell m i a) keys₁ keys₂ ts₁ ts₂ ps₁ ps₂ r′
         s = rw same at x-read
 
-        k : Known t cells c r (cell m i a) keys₁ heads₁ links₁ ts₁ ps₁
+        k : Known t cells c r (cell m i a) keys₁ ts₁ ps₁
         k = f .known few
 
         lr : i < r
@@ -110,7 +109,7 @@ module _ (t : Task) (cells : List ℕ) where
         within = omega (arith, suc-mul i m)
 
         count : r′ ≡ length (met g (take r keys₁) (getD keys₁ i 0) a)
-        count = step-count t cells closed c r i a keys₁ heads₁ links₁ ts₁ ps₁ lr la k keys₂ heads₂ links₂ ts₂ ps₂ r′ s
+        count = step-count t cells closed c r i a keys₁ ts₁ ps₁ lr la k keys₂ ts₂ ps₂ r′ s
 
         grown : r ≤ r′
         grown =
@@ -124,9 +123,9 @@ module _ (t : Task) (cells : List ℕ) where
             let e : 0 + a ≡ a = omega arith in
             rw (f .front few, f .rows few, add-one) (sym (by-next g law a 0 v rs ∙ rw e))
 
-    pub row-done : (a r : ℕ) (keys′ heads′ links′ ts′ ps′ : List ℕ) → ltb a m && leb r c ≡ false
-        → RowPart t cells c n i a keys keys′ heads′ links′ ts ts′ ps ps′ r → RowSays t cells c n i keys keys′ heads′ links′ ts ts′ ps ps′ r
-    row-done a r keys′ heads′ links′ ts′ ps′ test f =
+    pub row-done : (a r : ℕ) (keys′ ts′ ps′ : List ℕ) → ltb a m && leb r c ≡ false
+        → RowPart t cells c n i a keys keys′ ts ts′ ps ps′ r → RowSays t cells c n i keys keys′ ts ts′ ps ps′ r
+    row-done a r keys′ ts′ ps′ test f =
         record {
           known = λ h. rw (all-cells h) at (f .known h);
           rows = λ h. f .rows h ∙ ap (λ (k : ℕ). foundBy k 0 g v rs) (all-letters h);
@@ -155,19 +154,18 @@ module _ (t : Task) (cells : List ℕ) where
   abbrev plan : Plan ℕ
   plan = keyPlan t cells
 
-  pub stage-begun : (c number : ℕ) (old keys heads links ts ps : List ℕ) → Closed t cells → Room (t .letters) c ts ps old
-      → Settles c (t .start) 0 old keys heads links number → Stage t cells c 0 1 keys heads links ts ps
+  pub stage-begun : (c : ℕ) (old ts ps : List ℕ) → Closed t cells → Room (t .letters) c ts ps old → Stage t cells c 0 1 (set old 0 (t .start)) ts ps
   unfolding rowsOf
-  stage-begun c number old keys heads links ts ps closed room s =
+  stage-begun c old ts ps closed room =
       record {
         within = omega arith;
         known =
-            record { filed = f .filed (room .some-rows); fits = one-key; read = rw (zero-mul (t .letters)) (read-none plan (law t cells) noRow (take 1 keys) ts ps); target-room = room .target-room; priority-room = room .priority-room };
-        goes-on = λ d l. rw (all-fuel d, one-row);
+            record { filed = filed; fits = one-key; read = rw (zero-mul (t .letters)) (read-none plan (law t cells) noRow (take 1 keys) ts ps); target-room = room .target-room; priority-room = room .priority-room };
+        goes-on = λ d l. rw (all-fuel d, take-suc-set old 0 (t .start) some);
       }
     where
-      f : Settles c (t .start) 0 old keys heads links 0
-      f = let z : number ≡ 0 = s .number in rw z at s
+      keys : List ℕ
+      keys = set old 0 (t .start)
 
       all-fuel : (d : ℕ) → suc d - 0 ≡ suc d
       all-fuel d = omega arith
@@ -175,28 +173,27 @@ module _ (t : Task) (cells : List ℕ) where
       some : 0 < length old
       some = omega (arith, room .some-rows, room .key-room)
 
-      one-row : take 1 keys ≡ t .start ∷ []
-      one-row = rw (f .key-array (room .some-rows)) (take-suc-set old 0 (t .start) some)
+      filed : Filed c 1 keys
+      filed = record { few = room .some-rows; most = room .most-rows; key-room = simp length-set (room .key-room); apart = λ i j l lj. absurd (omega arith) }
 
       one-key : (j : ℕ) → j < 1 → Fits (t .letters) cells (getD keys j 0)
-      one-key j l =
-          let z : j ≡ 0 = omega arith in
-          rw (f .key-array (room .some-rows), z, getD-set-same old 0 (t .start) 0 some) (closed .start)
+      one-key j l = let z : j ≡ 0 = omega arith in rw (z, getD-set-same old 0 (t .start) 0 some) (closed .start)
 
-  -- another index, and room for more rows
-  pub stage-wider : (c c′ i n : ℕ) (keys heads links heads′ links′ ts ps : List ℕ) → c ≤ c′ → Room (t .letters) c′ ts ps keys → 0 < length heads′ → c′ ≤ length links′
-      → Indexed (length heads′) n keys heads′ links′ → Stage t cells c i n keys heads links ts ps → Stage t cells c′ i n keys heads′ links′ ts ps
-  stage-wider c c′ i n keys heads links heads′ links′ ts ps wide room some-slots link-room indexed s =
+  -- room for more rows
+  pub stage-wider : (c c′ i n : ℕ) (keys ts ps : List ℕ) → c ≤ c′ → Room (t .letters) c′ ts ps keys → Stage t cells c i n keys ts ps → Stage t cells c′ i n keys ts ps
+  stage-wider c c′ i n keys ts ps wide room s =
+      let k = s .known in
+      let f = k .filed in
       record {
         within = s .within;
         known =
-            record { filed = record { few = omega (arith, s .known .filed .few); most = room .most-rows; key-room = room .key-room; some-slots = some-slots; link-room = link-room; apart = s .known .filed .apart; indexed = indexed }; fits = s .known .fits; read = s .known .read; target-room = room .target-room; priority-room = room .priority-room };
+            record { filed = record { few = omega (arith, f .few); most = room .most-rows; key-room = room .key-room; apart = f .apart }; fits = k .fits; read = k .read; target-room = room .target-room; priority-room = room .priority-room };
         goes-on = s .goes-on;
       }
 
   module _ (c : ℕ) (keys ts ps : List ℕ) where
-    pub part-begun : (i n : ℕ) (heads links : List ℕ) → Stage t cells c i n keys heads links ts ps → RowsPart t cells c i keys keys heads links ts ts ps ps n
-    part-begun i n heads links s =
+    pub part-begun : (i n : ℕ) → Stage t cells c i n keys ts ps → RowsPart t cells c i keys keys ts ts ps ps n
+    part-begun i n s =
         record {
           few = omega (arith, s .within, s .known .filed .few);
           stage = λ h. s;
@@ -208,26 +205,23 @@ module _ (t : Task) (cells : List ℕ) where
         }
 
     -- the first row was filed before
-    pub part-after : (number i r : ℕ) (old heads links keys′ heads′ links′ ts′ ps′ : List ℕ) → 1 ≤ c → 1 ≤ r → Settles c (t .start) 0 old keys heads links number
-        → RowsPart t cells c i keys keys′ heads′ links′ ts ts′ ps ps′ r → RowsPart t cells c i old keys′ heads′ links′ ts ts′ ps ps′ r
-    part-after number i r old heads links keys′ heads′ links′ ts′ ps′ some one s f =
+    pub part-after : (i r v : ℕ) (keys′ ts′ ps′ : List ℕ) → 1 ≤ c → 1 ≤ r → RowsPart t cells c i (set keys 0 v) keys′ ts ts′ ps ps′ r
+        → RowsPart t cells c i keys keys′ ts ts′ ps ps′ r
+    part-after i r v keys′ ts′ ps′ some one f =
         record {
           few = f .few;
           stage = f .stage;
           over = f .over;
-          key-rest = beyond-then (s .key-rest) (f .key-rest);
-          new-rest = λ h. beyond-then first-only (f .new-rest h);
+          key-rest = beyond-then (beyond-set c keys 0 v some) (f .key-rest);
+          new-rest = λ h. beyond-then (beyond-set r keys 0 v one) (f .new-rest h);
           target-rest = f .target-rest;
           priority-rest = f .priority-rest;
         }
-      where
-        first-only : Beyond r old keys
-        first-only = let z : number ≡ 0 = s .number in let e = rw z at s in rw (e .key-array some) (beyond-set r old 0 (t .start) one)
 
-    pub rows-next : (i r r′ : ℕ) (keys₁ heads₁ links₁ ts₁ ps₁ keys₂ heads₂ links₂ ts₂ ps₂ : List ℕ) → i < r → r ≤ c
-        → RowsPart t cells c i keys keys₁ heads₁ links₁ ts ts₁ ps ps₁ r → RowSays t cells c r i keys₁ keys₂ heads₂ links₂ ts₁ ts₂ ps₁ ps₂ r′
-        → RowsPart t cells c (i + 1) keys keys₂ heads₂ links₂ ts ts₂ ps ps₂ r′
-    rows-next i r r′ keys₁ heads₁ links₁ ts₁ ps₁ keys₂ heads₂ links₂ ts₂ ps₂ li few f s =
+    pub rows-next : (i r r′ : ℕ) (keys₁ ts₁ ps₁ keys₂ ts₂ ps₂ : List ℕ) → i < r → r ≤ c
+        → RowsPart t cells c i keys keys₁ ts ts₁ ps ps₁ r → RowSays t cells c r i keys₁ keys₂ ts₁ ts₂ ps₁ ps₂ r′
+        → RowsPart t cells c (i + 1) keys keys₂ ts ts₂ ps ps₂ r′
+    rows-next i r r′ keys₁ ts₁ ps₁ keys₂ ts₂ ps₂ li few f s =
         record {
           few = omega arith;
           stage = λ h. record { within = omega (arith, s .longer); known = rw add-one (s .known h); goes-on = λ d l. advanced d (omega (arith, s .longer)) ∙ rw (s .rows h, less-fuel d, add-one) };
@@ -241,7 +235,7 @@ module _ (t : Task) (cells : List ℕ) where
         found : List ℕ
         found = foundBy (t .letters) 0 plan (getD keys₁ i 0) (take r keys₁)
 
-        before : Stage t cells c i r keys₁ heads₁ links₁ ts₁ ps₁
+        before : Stage t cells c i r keys₁ ts₁ ps₁
         before = f .stage few
 
         room : r ≤ length keys₁
@@ -262,9 +256,9 @@ module _ (t : Task) (cells : List ℕ) where
             (rw e at (before .goes-on d l)) ∙ from-on plan (law t cells) (d - i) i d (take r keys₁) (rw (length-take-le r keys₁ room) (and-both (ltb i r) (leb r d) (lt-ltb i r li) (le-leb r d l))) ∙ rw (key-row plan r keys₁ i li room)
 
     -- what was found, of all rows
-    pub all-read : (c₀ r : ℕ) (keys′ heads′ links′ ts′ ps′ : List ℕ) → r ≤ c → Stage t cells c₀ r r keys′ heads′ links′ ts′ ps′ → Beyond r keys keys′
+    pub all-read : (c₀ r : ℕ) (keys′ ts′ ps′ : List ℕ) → r ≤ c → Stage t cells c₀ r r keys′ ts′ ps′ → Beyond r keys keys′
         → Beyond (r * t .letters) ts ts′ → Beyond (r * t .letters) ps ps′ → ExploresAll t cells c keys keys′ ts ts′ ps ps′ r
-    all-read c₀ r keys′ heads′ links′ ts′ ps′ few s a b d =
+    all-read c₀ r keys′ ts′ ps′ few s a b d =
         record {
           full = le-ltb c r few ∙ sym (le-ltb c (length (rowsOf plan c)) (omega (arith, many)));
           rows = λ h. sym rows-are;
@@ -289,9 +283,9 @@ module _ (t : Task) (cells : List ℕ) where
         many : length (rowsOf plan c) ≡ r
         many = ap length rows-are ∙ size
 
-    pub all-over : (i r : ℕ) (keys′ heads′ links′ ts′ ps′ : List ℕ) → c < r → RowsPart t cells c i keys keys′ heads′ links′ ts ts′ ps ps′ r
+    pub all-over : (i r : ℕ) (keys′ ts′ ps′ : List ℕ) → c < r → RowsPart t cells c i keys keys′ ts ts′ ps ps′ r
         → ExploresAll t cells c keys keys′ ts ts′ ps ps′ r
-    all-over i r keys′ heads′ links′ ts′ ps′ more f =
+    all-over i r keys′ ts′ ps′ more f =
         record {
           full = lt-ltb c r more ∙ sym (lt-ltb c (length (rowsOf plan c)) (f .over more));
           rows = λ h. absurd (omega arith);

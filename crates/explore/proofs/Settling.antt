@@ -1,7 +1,8 @@
 -- A key is looked up and, where it is absent and there is room, its row is filed.
 --     number-most, number-found, number-absent     the number of a key among keys of which none stands twice
---     filed-none                      no row is filed yet
+--     rows-old, rows-new              how many rows there are when a key was found or added
 --     settled-found, settled-full, settled-added     the three outcomes
+--     linked-more                     the index with the key that was added
 use mathlib.Core.Path.{_≡_, refl, sym, _∙_}
 use mathlib.Core.List.{List}
 use Prim.Native.Nat.{ℕ, suc, _<_, _≤_}
@@ -10,12 +11,11 @@ use lib.Dec.{eqb, ltb}
 use lib.ListN.{length, getD, set, take, length-set}
 use lib.Seq.{getD-set-same, getD-set-other, getD-take, length-take-le}
 use borrow.Author.Tests.{eqb-true, eqb-false, eq-eqb, ne-eqb, ltb-true, ltb-false}
-use Rattle.rules.specs.Limits.{maxRows}
 use Rattle.rules.proofs.Bools.{by}
 use Rattle.rules.proofs.Exploration.{place-found, place-least, place-most}
-use Rattle.explore.specs.Index.{slotOf, Apart, numberAmong, KeyIndexed}
-use Rattle.explore.specs.Filing.{Filed, Settles}
-use Rattle.explore.proofs.Chains.{indexed-none, indexed-more}
+use Rattle.explore.specs.Index.{slotOf, Linked, Apart, numberAmong, KeyIndexed}
+use Rattle.explore.specs.Filing.{Filed, rowsAfter, Settles}
+use Rattle.explore.proofs.Chains.{indexed-more}
 use Rattle.rules.proofs.Filling.{beyond-none, beyond-set}
 
 -- ---- the number of a key
@@ -49,6 +49,12 @@ module _ (n key : ℕ) (keys : List ℕ) (room : n ≤ length keys) where
       (λ h. omega (arith, ltb-false (numberAmong key n keys) n h, number-most))
 
 -- ---- one row more
+pub rows-old : (n i : ℕ) → i < n → rowsAfter n i ≡ n
+rows-old n i l = rw (ne-eqb i n (λ z. omega arith))
+
+pub rows-new : (n : ℕ) → rowsAfter n n ≡ suc n
+rows-new n = rw (eq-eqb n n refl)
+
 apart-more : (n key : ℕ) (keys : List ℕ) → n < length keys → ((i : ℕ) → i < n → getD keys i 0 ≡ key → ⊥) → Apart n keys
     → Apart (suc n) (set keys n key)
 apart-more n key keys room absent apart i j l lj e =
@@ -58,27 +64,14 @@ apart-more n key keys room absent apart i j l lj e =
     (λ h. absent i (omega (arith, eqb-true j n h)) (sym low ∙ e ∙ (rw (eqb-true j n h) (getD-set-same keys n key 0 room))))
     (λ h. let d = eqb-false j n h in apart i j l (omega arith) (sym low ∙ e ∙ getD-set-other keys n j key 0 d))
 
-pub filed-none : (c : ℕ) (keys heads links : List ℕ) → c ≤ maxRows → c ≤ length keys → 0 < length heads → c ≤ length links → ((s : ℕ) → getD heads s 0 ≡ 0)
-    → Filed c 0 keys heads links
-filed-none c keys heads links most a b d z =
-    record {
-      few = omega arith;
-      most = most;
-      key-room = a;
-      some-slots = b;
-      link-room = d;
-      apart = λ i j l lj. absurd (omega arith);
-      indexed = indexed-none (length heads) keys heads links z;
-    }
-
-module _ (c key n : ℕ) (keys heads links : List ℕ) (f : Filed c n keys heads links) where
+module _ (c key n : ℕ) (keys : List ℕ) (f : Filed c n keys) where
   abbrev Absent-key : Type 0
   Absent-key = (i : ℕ) → i < n → getD keys i 0 ≡ key → ⊥
 
   key-places : n ≤ length keys
   key-places = omega (arith, f .few, f .key-room)
 
-  pub settled-found : (i : ℕ) → i < n → getD keys i 0 ≡ key → Settles c key n keys keys heads links i
+  pub settled-found : (i : ℕ) → i < n → getD keys i 0 ≡ key → Settles c key n keys keys i
   settled-found i l e =
       let old = ne-eqb i n (λ z. omega arith) in
       record {
@@ -88,7 +81,7 @@ module _ (c key n : ℕ) (keys heads links : List ℕ) (f : Filed c n keys heads
         key-rest = beyond-none c keys;
       }
 
-  pub settled-full : c ≤ n → Absent-key → Settles c key n keys keys heads links n
+  pub settled-full : c ≤ n → Absent-key → Settles c key n keys keys n
   settled-full l absent =
       let new = eq-eqb n n refl in
       record {
@@ -98,22 +91,25 @@ module _ (c key n : ℕ) (keys heads links : List ℕ) (f : Filed c n keys heads
         key-rest = beyond-none c keys;
       }
 
-  module _ (heads′ links′ : List ℕ) (x : KeyIndexed key n heads heads′ links links′) where
-    filed-more : n < c → Absent-key → Filed c (suc n) (set keys n key) heads′ links′
-    filed-more l absent =
-        let lk : n < length keys = omega (arith, f .key-room) in
-        let some = f .some-slots in
-        let ll : n < length links = omega (arith, f .link-room) in
-        rw
-        (x .head-array, x .link-array)
-        (record { few = l; most = f .most; key-room = simp length-set (f .key-room); some-slots = simp length-set some; link-room = simp length-set (f .link-room); apart = apart-more n key keys lk absent (f .apart); indexed = rw (length-set heads (slotOf (length heads) key) (suc n)) (indexed-more (length heads) n key keys (set keys n key) heads links some (omega arith) ll (λ i b. getD-set-other keys n i key 0 (λ z. omega arith)) (getD-set-same keys n key 0 lk) (f .indexed)) })
+  module _ (l : n < c) where
+    lk : n < length keys
+    lk = omega (arith, f .key-room)
 
-    pub settled-added : n < c → Absent-key → Settles c key n keys (set keys n key) heads′ links′ n
-    settled-added l absent =
+    pub settled-added : Absent-key → Settles c key n keys (set keys n key) n
+    settled-added absent =
         let new = eq-eqb n n refl in
         record {
           number = number-absent n key keys key-places absent;
-          filed = λ h. rw new (filed-more l absent);
+          filed = λ h. rw new (record { few = l; most = f .most; key-room = simp length-set (f .key-room); apart = apart-more n key keys lk absent (f .apart) });
           key-array = λ h. rw new;
           key-rest = beyond-set c keys n key l;
         }
+
+    pub linked-more : (heads heads′ links links′ : List ℕ) → Linked c n keys heads links → KeyIndexed key n heads heads′ links links′
+        → Linked c (suc n) (set keys n key) heads′ links′
+    linked-more heads heads′ links links′ x y =
+        let some = x .some-slots in
+        let ll : n < length links = omega (arith, x .link-room) in
+        rw
+        (y .head-array, y .link-array)
+        (record { some-slots = simp length-set some; link-room = simp length-set (x .link-room); chains = rw (length-set heads (slotOf (length heads) key) (suc n)) (indexed-more (length heads) n key keys (set keys n key) heads links some (omega arith) ll (λ i b. getD-set-other keys n i key 0 (λ z. omega arith)) (getD-set-same keys n key 0 lk) (x .chains)) })

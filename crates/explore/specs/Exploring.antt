@@ -10,10 +10,8 @@
 --     RowSays t cells c n i ..     row i has been read by all letters
 --     Stage t cells c i n ..       the rows below i are read, n are known, and the exploration goes on from here, whatever the capacity
 --     fewRows, fewLimit            the rows of a small index, and up to how many the next row leads to no more
---     Begun t cells c i n ..       the same with some index and room for c rows at most
 --     RowsPart t cells c i .. r    what reading the rows below i leaves, r being known: a stage, or more than c
 --     RowsSay t cells n l c i .. r the same from n known rows on, where all rows were read or more than l are known
---     FewSay t cells l c i .. r    the same from the first row on, with some small index
 --     ExploresAll t cells c .. r   all rows have been read, or more than c were found
 --     exploredOf t cells c k a b   the answer of an exploration
 --     Leaves x t cells c ..        what the arrays hold after the answer x: the rows, and what was there behind them; after Full the first c
@@ -64,23 +62,23 @@ pub record Room (m c : ℕ) (ts ps keys : List ℕ) : Type 0 where
   pub key-room : c ≤ length keys
 
 -- ---- cells and rows that are read
-pub record StepRead (x : Step ℕ) (c n p : ℕ) (keys keys′ heads′ links′ ts ts′ ps ps′ : List ℕ) (r : ℕ) : Type 0 where
+pub record StepRead (x : Step ℕ) (c n p : ℕ) (keys keys′ ts ts′ ps ps′ : List ℕ) (r : ℕ) : Type 0 where
   pub count : r ≡ pick (x .there) (rowsAfter n (numberAmong (x .to) n keys)) n
-  pub filed : r ≤ c → Filed c r keys′ heads′ links′
+  pub filed : r ≤ c → Filed c r keys′
   pub key-array : r ≤ c → keys′ ≡ pick (x .there) (pick (eqb (numberAmong (x .to) n keys) n) (set keys n (x .to)) keys) keys
   pub target-array : ts′ ≡ set ts p (pick (x .there) (numberAmong (x .to) n keys) noRow)
   pub priority-array : ps′ ≡ set ps p (x .prio)
   pub key-rest : Beyond c keys keys′
 
-pub record Known (t : Task) (cells : List ℕ) (c n p : ℕ) (keys heads links ts ps : List ℕ) : Type 0 where
-  pub filed : Filed c n keys heads links
+pub record Known (t : Task) (cells : List ℕ) (c n p : ℕ) (keys ts ps : List ℕ) : Type 0 where
+  pub filed : Filed c n keys
   pub fits : (i : ℕ) → i < n → Fits (t .letters) cells (getD keys i 0)
   pub read : Read (keyPlan t cells) noRow (take n keys) p ts ps
   pub target-room : c * t .letters ≤ length ts
   pub priority-room : c * t .letters ≤ length ps
 
-pub record RowSays (t : Task) (cells : List ℕ) (c n i : ℕ) (keys keys′ heads′ links′ ts ts′ ps ps′ : List ℕ) (r : ℕ) : Type 0 where
-  pub known : r ≤ c → Known t cells c r (suc i * t .letters) keys′ heads′ links′ ts′ ps′
+pub record RowSays (t : Task) (cells : List ℕ) (c n i : ℕ) (keys keys′ ts ts′ ps ps′ : List ℕ) (r : ℕ) : Type 0 where
+  pub known : r ≤ c → Known t cells c r (suc i * t .letters) keys′ ts′ ps′
   pub rows : r ≤ c → take r keys′ ≡ foundBy (t .letters) 0 (keyPlan t cells) (getD keys i 0) (take n keys)
   pub over : c < r → c < length (foundBy (t .letters) 0 (keyPlan t cells) (getD keys i 0) (take n keys))
   pub longer : n ≤ r
@@ -91,9 +89,9 @@ pub record RowSays (t : Task) (cells : List ℕ) (c n i : ℕ) (keys keys′ hea
   pub priority-rest : Beyond (suc i * t .letters) ps ps′
 
 -- ---- stages of the exploration
-pub record Stage (t : Task) (cells : List ℕ) (c i n : ℕ) (keys heads links ts ps : List ℕ) : Type 0 where
+pub record Stage (t : Task) (cells : List ℕ) (c i n : ℕ) (keys ts ps : List ℕ) : Type 0 where
   pub within : i ≤ n
-  pub known : Known t cells c n (i * t .letters) keys heads links ts ps
+  pub known : Known t cells c n (i * t .letters) keys ts ps
   pub goes-on : (d : ℕ) → n ≤ d → rowsOf (keyPlan t cells) d ≡ foundFrom (suc d - i) i (keyPlan t cells) d (take n keys)
 
 abbrev pub fewRows : ℕ
@@ -102,32 +100,20 @@ fewRows = 64
 abbrev pub fewLimit : ℕ
 fewLimit = 48
 
-pub record Begun (t : Task) (cells : List ℕ) (c i n : ℕ) (keys ts ps : List ℕ) : Type 0 where
-  pub room : ℕ
-  pub heads : List ℕ
-  pub links : List ℕ
-  pub within : room ≤ c
-  pub stage : Stage t cells room i n keys heads links ts ps
-
-pub record RowsPart (t : Task) (cells : List ℕ) (c i : ℕ) (keys keys′ heads′ links′ ts ts′ ps ps′ : List ℕ) (r : ℕ) : Type 0 where
+pub record RowsPart (t : Task) (cells : List ℕ) (c i : ℕ) (keys keys′ ts ts′ ps ps′ : List ℕ) (r : ℕ) : Type 0 where
   pub few : i ≤ c
-  pub stage : r ≤ c → Stage t cells c i r keys′ heads′ links′ ts′ ps′
+  pub stage : r ≤ c → Stage t cells c i r keys′ ts′ ps′
   pub over : c < r → c < length (rowsOf (keyPlan t cells) c)
   pub key-rest : Beyond c keys keys′
   pub new-rest : r ≤ c → Beyond r keys keys′
   pub target-rest : Beyond (i * t .letters) ts ts′
   pub priority-rest : Beyond (i * t .letters) ps ps′
 
-pub record RowsSay (t : Task) (cells : List ℕ) (n l c i : ℕ) (keys keys′ heads′ links′ ts ts′ ps ps′ : List ℕ) (r : ℕ) : Type 0 where
-  pub part : RowsPart t cells c i keys keys′ heads′ links′ ts ts′ ps ps′ r
+pub record RowsSay (t : Task) (cells : List ℕ) (n l c i : ℕ) (keys keys′ ts ts′ ps ps′ : List ℕ) (r : ℕ) : Type 0 where
+  pub part : RowsPart t cells c i keys keys′ ts ts′ ps ps′ r
   pub longer : n ≤ r
   pub most : r ≤ l + t .letters
   pub ended : ltb i r && leb r l ≡ false
-
-pub record FewSay (t : Task) (cells : List ℕ) (l c i : ℕ) (keys keys′ ts ts′ ps ps′ : List ℕ) (r : ℕ) : Type 0 where
-  pub heads : List ℕ
-  pub links : List ℕ
-  pub says : RowsSay t cells 1 l c i keys keys′ heads links ts ts′ ps ps′ r
 
 pub record ExploresAll (t : Task) (cells : List ℕ) (c : ℕ) (keys keys′ ts ts′ ps ps′ : List ℕ) (r : ℕ) : Type 0 where
   pub full : ltb c r ≡ isFull (keyPlan t cells) c

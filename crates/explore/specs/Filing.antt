@@ -1,5 +1,5 @@
 -- Keys that are filed, and their index.
---     Filed c n keys heads links   n keys of at most c are filed, each once
+--     Filed c n keys               n keys of at most c are filed, each once
 --     rowsAfter n r                how many keys are filed when the one of number r has been looked up among n
 --     Settles c key n .. r         a prime marks an array's contents at exit: r is the key's number, and it has been filed if it was absent and there was room
 use mathlib.Core.Path.{_≡_}
@@ -10,22 +10,19 @@ use lib.ListN.{length, set}
 use Rattle.rules.specs.Basics.{pick}
 use Rattle.rules.specs.Limits.{maxRows}
 use Rattle.rules.specs.Arrays.{Beyond}
-use Rattle.explore.specs.Index.{Indexed, Apart, numberAmong}
+use Rattle.explore.specs.Index.{Apart, numberAmong}
 
-pub record Filed (c n : ℕ) (keys heads links : List ℕ) : Type 0 where
+pub record Filed (c n : ℕ) (keys : List ℕ) : Type 0 where
   pub few : n ≤ c
   pub most : c ≤ maxRows
   pub key-room : c ≤ length keys
-  pub some-slots : 0 < length heads
-  pub link-room : c ≤ length links
   pub apart : Apart n keys
-  pub indexed : Indexed (length heads) n keys heads links
 
 abbrev pub rowsAfter : ℕ → ℕ → ℕ
 rowsAfter n r = pick (eqb r n) (suc n) n
 
-pub record Settles (c key n : ℕ) (keys keys′ heads′ links′ : List ℕ) (r : ℕ) : Type 0 where
+pub record Settles (c key n : ℕ) (keys keys′ : List ℕ) (r : ℕ) : Type 0 where
   pub number : r ≡ numberAmong key n keys
-  pub filed : rowsAfter n r ≤ c → Filed c (rowsAfter n r) keys′ heads′ links′
+  pub filed : rowsAfter n r ≤ c → Filed c (rowsAfter n r) keys′
   pub key-array : rowsAfter n r ≤ c → keys′ ≡ pick (eqb r n) (set keys n key) keys
   pub key-rest : Beyond c keys keys′

@@ -2,13 +2,14 @@
 --     slotOf slots key             the slot of a key among so many (multiplicative hashing)
 --     nearest slots keys s n       one more than the last place below n whose key has the slot s, 0 if there is none
 --     Indexed slots n keys heads links     heads has the nearest place for each slot, links the one before each place, of the same slot
+--     Linked c n keys heads links  such an index of n keys, with some slots and links for c
 --     Apart n keys                 no key stands twice among the first n
 --     numberAmong key n keys       the place of the key among the first n, n if it is absent
 --     Finds n key keys f           f is the place of the key among the first n, or says that it is absent
 --     KeyIndexed key n ..          the index with one key more, of number n; a prime marks an array's contents at exit
 use mathlib.Core.Path.{_≡_}
 use mathlib.Core.List.{List}
-use Prim.Native.Nat.{ℕ, zero, suc, _-_, _*_, _/_, _%_, _<_}
+use Prim.Native.Nat.{ℕ, zero, suc, _-_, _*_, _/_, _%_, _<_, _≤_}
 use lib.Bits.{bitAnd}
 use lib.Dec.{eqb}
 use lib.ListN.{length, getD, set, take}
@@ -27,6 +28,11 @@ nearest slots keys s (suc n) = pick (eqb (slotOf slots (getD keys n 0)) s) (suc 
 pub record Indexed (slots n : ℕ) (keys heads links : List ℕ) : Type 0 where
   pub head : (s : ℕ) → s < slots → getD heads s 0 ≡ nearest slots keys s n
   pub link : (i : ℕ) → i < n → getD links i 0 ≡ nearest slots keys (slotOf slots (getD keys i 0)) i
+
+pub record Linked (c n : ℕ) (keys heads links : List ℕ) : Type 0 where
+  pub some-slots : 0 < length heads
+  pub link-room : c ≤ length links
+  pub chains : Indexed (length heads) n keys heads links
 
 abbrev pub Apart : ℕ → List ℕ → Type 0
 Apart n keys = (i j : ℕ) → i < j → j < n → getD keys i 0 ≡ getD keys j 0 → ⊥

@@ -20,7 +20,8 @@ ghost use lib.ListN.{length};
 ghost use Rattle.rules.specs.Basics.{pick};
 ghost use Rattle.explore.specs.Cells.{span, crossingKind, stepIn};
 ghost use Rattle.explore.specs.Filing.{Filed};
-ghost use Rattle.explore.specs.Exploring.{fewRows, StepRead, Closed, Known, RowSays, Room, Stage, Begun, RowsSay, FewSay, ExploresAll};
+ghost use Rattle.explore.specs.Index.{Linked};
+ghost use Rattle.explore.specs.Exploring.{StepRead, Closed, Known, RowSays, Room, Stage, RowsSay, ExploresAll};
 
 // The rows of a small index, and its slots. While few rows are known, clearing the large one would take longer than reading them.
 const FEW_ROWS: usize = 64;
@@ -84,8 +85,8 @@ fn read_cell(
     targets: &mut [u16],
     priorities: &mut [u8],
 ) -> usize
-    requires { ⌜ Filed capacity n (now keys) (now heads) (now links) × (effect < 256 * span) × (p < length (now targets)) × (p < length (now priorities)) ⌝ }
-    ensures { λ r. ⌜ StepRead (stepIn code effect) capacity n p (now (keys .entry)) (now (keys .exit)) (now (heads .exit)) (now (links .exit)) (now (targets .entry)) (now (targets .exit)) (now (priorities .entry)) (now (priorities .exit)) r ⌝ }
+    requires { ⌜ Filed capacity n (now keys) × Linked capacity n (now keys) (now heads) (now links) × (effect < 256 * span) × (p < length (now targets)) × (p < length (now priorities)) ⌝ }
+    ensures { λ r. ⌜ StepRead (stepIn code effect) capacity n p (now (keys .entry)) (now (keys .exit)) (now (targets .entry)) (now (targets .exit)) (now (priorities .entry)) (now (priorities .exit)) r × (r ≤ capacity → Linked capacity r (now (keys .exit)) (now (heads .exit)) (now (links .exit))) ⌝ }
 {
     if code < CROSSING {
         targets[p] = NO_ROW;
@@ -111,8 +112,8 @@ fn read_row(
     targets: &mut [u16],
     priorities: &mut [u8],
 ) -> usize
-    requires { ⌜ Closed task (now cells) × (i < n) × Known task (now cells) capacity n (i * task .letters) (now keys) (now heads) (now links) (now targets) (now priorities) ⌝ }
-    ensures { λ r. ⌜ RowSays task (now (cells .entry)) capacity n i (now (keys .entry)) (now (keys .exit)) (now (heads .exit)) (now (links .exit)) (now (targets .entry)) (now (targets .exit)) (now (priorities .entry)) (now (priorities .exit)) r ⌝ }
+    requires { ⌜ Closed task (now cells) × (i < n) × Known task (now cells) capacity n (i * task .letters) (now keys) (now targets) (now priorities) × Linked capacity n (now keys) (now heads) (now links) ⌝ }
+    ensures { λ r. ⌜ RowSays task (now (cells .entry)) capacity n i (now (keys .entry)) (now (keys .exit)) (now (targets .entry)) (now (targets .exit)) (now (priorities .entry)) (now (priorities .exit)) r × (r ≤ capacity → Linked capacity r (now (keys .exit)) (now (heads .exit)) (now (links .exit))) ⌝ }
 {
     let rule = task.rule;
     let m = task.letters;
@@ -156,8 +157,8 @@ fn read_rows(
     targets: &mut [u16],
     priorities: &mut [u8],
 ) -> Progress
-    requires { ⌜ Closed task (now cells) × (limit ≤ capacity) × (n ≤ limit + task .letters) × Stage task (now cells) capacity row n (now keys) (now heads) (now links) (now targets) (now priorities) ⌝ }
-    ensures { λ r. ⌜ RowsSay task (now (cells .entry)) n limit capacity (r .row) (now (keys .entry)) (now (keys .exit)) (now (heads .exit)) (now (links .exit)) (now (targets .entry)) (now (targets .exit)) (now (priorities .entry)) (now (priorities .exit)) (r .known) ⌝ }
+    requires { ⌜ Closed task (now cells) × (limit ≤ capacity) × (n ≤ limit + task .letters) × Stage task (now cells) capacity row n (now keys) (now targets) (now priorities) × Linked capacity n (now keys) (now heads) (now links) ⌝ }
+    ensures { λ r. ⌜ RowsSay task (now (cells .entry)) n limit capacity (r .row) (now (keys .entry)) (now (keys .exit)) (now (targets .entry)) (now (targets .exit)) (now (priorities .entry)) (now (priorities .exit)) (r .known) ⌝ }
 {
     let mut known = n;
     let mut i = row;
@@ -180,37 +181,6 @@ fn read_rows(
     Progress { row: i, known }
 }
 
-// Reads rows from the first one on, with a small index.
-fn read_few(
-    task: Task,
-    cells: &[u32],
-    limit: usize,
-    capacity: usize,
-    keys: &mut [u32],
-    targets: &mut [u16],
-    priorities: &mut [u8],
-) -> Progress
-    requires { ⌜ Closed task (now cells) × Room (task .letters) capacity (now targets) (now priorities) (now keys) × (capacity ≤ fewRows) × (limit ≤ capacity) ⌝ }
-    ensures { λ r. ⌜ FewSay task (now (cells .entry)) limit capacity (r .row) (now (keys .entry)) (now (keys .exit)) (now (targets .entry)) (now (targets .exit)) (now (priorities .entry)) (now (priorities .exit)) (r .known) ⌝ }
-{
-    let mut heads = [0; FEW_SLOTS];
-    let mut links = [0; FEW_ROWS];
-    settle(task.start, 0, capacity, keys, &mut heads, &mut links);
-    read_rows(
-        task,
-        cells,
-        0,
-        1,
-        limit,
-        capacity,
-        keys,
-        &mut heads,
-        &mut links,
-        targets,
-        priorities,
-    )
-}
-
 // Reads the rows from number `row` on, where n are known, with a large index, and gives how many there are, or that there are more than
 // the capacity.
 fn read_many(
@@ -223,7 +193,7 @@ fn read_many(
     targets: &mut [u16],
     priorities: &mut [u8],
 ) -> usize
-    requires { ⌜ Closed task (now cells) × Room (task .letters) capacity (now targets) (now priorities) (now keys) × Begun task (now cells) capacity row n (now keys) (now targets) (now priorities) ⌝ }
+    requires { ⌜ Closed task (now cells) × Stage task (now cells) capacity row n (now keys) (now targets) (now priorities) ⌝ }
     ensures { λ r. ⌜ ExploresAll task (now (cells .entry)) capacity (now (keys .entry)) (now (keys .exit)) (now (targets .entry)) (now (targets .exit)) (now (priorities .entry)) (now (priorities .exit)) r × (n ≤ r) ⌝ }
 {
     let mut heads = [0; SLOTS];
@@ -258,12 +228,20 @@ pub(crate) fn explore(
     requires { ⌜ Closed task (now cells) × Room (task .letters) capacity (now targets) (now priorities) (now keys) ⌝ }
     ensures { λ r. ⌜ ExploresAll task (now (cells .entry)) capacity (now (keys .entry)) (now (keys .exit)) (now (targets .entry)) (now (targets .exit)) (now (priorities .entry)) (now (priorities .exit)) r ⌝ }
 {
-    let few = read_few(
+    let mut heads = [0; FEW_SLOTS];
+    let mut links = [0; FEW_ROWS];
+    keys[0] = task.start;
+    index_keys(1, keys, &mut heads, &mut links);
+    let few = read_rows(
         task,
         cells,
+        0,
+        1,
         min_of(capacity, FEW_LIMIT),
         min_of(capacity, FEW_ROWS),
         keys,
+        &mut heads,
+        &mut links,
         targets,
         priorities,
     );

@@ -4,28 +4,40 @@ use mathlib.Core.Path.{_≡_}
 use Prim.Native.Nat.{ℕ, _<_}
 use native.Mathlib.Omega.{arith}
 use lib.ListN.{getD}
-use Rattle.explore.proofs.Settling.{settled-found, settled-full, settled-added}
+use Rattle.explore.proofs.Chains.{linked-few}
+use Rattle.explore.proofs.Settling.{rows-old, rows-new, settled-found, settled-full, settled-added, linked-more}
 use Rattle.explore.proofs.filing.settle.Statement.{statement}
 use Rattle.explore.proofs.filing.settle.Tie as tie
+
+find-key-requires : tie.Need-find-key-requires
+find-key-requires c κs =
+    let s = c .before .before .before .before .before .before in
+    (linked-few _ _ _ _ _ _ (s .pre .0 .few) (s .pre .1), omega (arith, s .pre .0 .few, s .pre .0 .key-room))
 
 -- the key is absent
 absent : (c : tie.After-enum-told) → let s = c .before .before .before .before .before .before .before .before .before in (i : ℕ) → i < s .args .n → getD (s .args .keys .now) i 0 ≡ s .args .key → ⊥
 absent c = rw (c .enum-told .given .1) at (c .before .before .find-key .ensures)
 
 returns : tie.Need-returns
-returns c = settled-full _ _ _ _ _ _ (c .before .before .before .before .before .before .before .before .before .before .pre) (omega (arith, c .if1 .taken)) (absent (c .before))
+returns c =
+    let s = c .before .before .before .before .before .before .before .before .before .before in
+    (settled-full _ _ _ _ (s .pre .0) (omega (arith, c .if1 .taken)) (absent (c .before)), λ h. absurd (omega (arith, rw (rows-new (s .args .n)) at h, c .if1 .taken)))
 
 returns-2 : tie.Need-returns-2
-returns-2 c = settled-added _ _ _ _ _ _ (c .before .before .before .before .before .before .before .before .before .before .before .before .before .before .before .before .before .pre) _ _ (c .before .before .before .before .index-key .ensures) (c .before .before .before .before .before .before .before .if1 .left) (absent (c .before .before .before .before .before .before .before .before))
+returns-2 c =
+    let s = c .before .before .before .before .before .before .before .before .before .before .before .before .before .before .before .before .before in
+    let l = c .before .before .before .before .before .before .before .if1 .left in
+    (settled-added _ _ _ _ (s .pre .0) l (absent (c .before .before .before .before .before .before .before .before)), λ h. rw (rows-new (s .args .n)) (linked-more _ _ _ _ (s .pre .0) l _ _ _ _ (s .pre .1) (c .before .before .before .before .index-key .ensures)))
 
 returns-3 : tie.Need-returns-3
 returns-3 c =
     let f = rw (c .before .found .given .1) at (c .before .before .before .find-key .ensures) in
-    settled-found _ _ _ _ _ _ (c .before .before .before .before .before .before .before .before .before .before .pre) _ (f .0) (f .1)
+    let s = c .before .before .before .before .before .before .before .before .before .before in
+    (settled-found _ _ _ _ (s .pre .0) _ (f .0) (f .1), λ h. rw (rows-old _ _ (f .0)) (s .pre .1))
 
 pub settle-spec : {M : Type 1} → statement M
 settle-spec =
     tie.close
-    (tie.spec (λ c κs. search needs) (λ c. search needs) (λ c. search needs) (λ c. search needs) (λ c. search needs) (λ c. search needs) returns
+    (tie.spec find-key-requires (λ c. search needs) (λ c. search needs) (λ c. search needs) (λ c. search needs) (λ c. search needs) returns
     (λ c. search needs) (λ c. search needs) (λ c κs. search needs) (λ c. search needs) (λ c. search needs) (λ c. search needs) returns-2
     (λ c. search needs) (λ c. search needs) (λ c. search needs) returns-3)

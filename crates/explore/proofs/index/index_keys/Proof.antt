@@ -34,7 +34,8 @@ loop-again c =
 returns : tie.Need-returns Inv-loop μ-loop
 returns c =
     let i = c .before .loop in
-    rw (i .inv .2) (rw (le-antisymm (i .inv .0) (c .loop-test .left)) at (i .inv .1))
+    let s = c .before .before .before .before .before in
+    record { some-slots = omega (arith, s .pre .2, i .inv .2); link-room = omega (arith, i .inv .3); chains = rw (i .inv .2) (rw (le-antisymm (i .inv .0) (c .loop-test .left)) at (i .inv .1)) }
 
 pub index-keys-spec : {M : Type 1} → statement M
 index-keys-spec =

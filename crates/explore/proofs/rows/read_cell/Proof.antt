@@ -17,20 +17,21 @@ there c = le-ltb _ _ (c .if1 .left)
 returns : tie.Need-returns
 returns c =
     let s = c .before .before .before .before .before .before in
-    read-missing (s .args .code) (s .args .effect) _ _ _ _ _ _ _ _ (lt-ltb _ _ (c .if1 .taken)) (s .pre .0)
+    (read-missing (s .args .code) (s .args .effect) _ _ _ _ _ _ (lt-ltb _ _ (c .if1 .taken)) (s .pre .0), λ h. s .pre .1)
 
 cast-targets : tie.Need-cast-targets
 cast-targets c =
     let s = c .before .before .before .before .before .before .before .before .before .before .before .before .before .before .before .before .before in
-    omega (arith, c .before .before .before .before .before .before .settle .ensures .number, number-most (s .args .n) (c .before .before .before .before .before .before .before .before .before .before .next-key .result) (s .args .keys .now) (omega (arith, s .pre .0 .few, s .pre .0 .key-room)), s .pre .0 .few, s .pre .0 .most)
+    omega (arith, c .before .before .before .before .before .before .settle .ensures .0 .number, number-most (s .args .n) (c .before .before .before .before .before .before .before .before .before .before .next-key .result) (s .args .keys .now) (omega (arith, s .pre .0 .few, s .pre .0 .key-room)), s .pre .0 .few, s .pre .0 .most)
 
 priority-of-requires : tie.Need-priority-of-requires
-priority-of-requires c κs = (there (c .before .before .before .before .before .before .before .before .before .before .before), c .before .before .before .before .before .before .before .before .before .before .before .before .before .before .before .before .before .pre .1)
+priority-of-requires c κs = (there (c .before .before .before .before .before .before .before .before .before .before .before), c .before .before .before .before .before .before .before .before .before .before .before .before .before .before .before .before .before .pre .2)
 
 returns-2 : tie.Need-returns-2
 returns-2 c =
     let s = c .before .before .before .before .before .before .before .before .before .before .before .before .before .before .before .before .before .before .before .args in
-    read-there (s .code) (s .effect) _ _ _ _ (s .heads .now) (s .links .now) _ _ _ _ _ _ _ _ _ (there (c .before .before .before .before .before .before .before .before .before .before .before .before .before)) (c .before .before .before .before .before .before .before .before .before .before .before .before .next-key .ensures) (c .before .priority-of .ensures) (c .before .before .before .before .before .before .before .before .settle .ensures) (c .rows-after .ensures)
+    let x = c .before .before .before .before .before .before .before .before .settle .ensures in
+    (read-there (s .code) (s .effect) _ _ _ _ _ _ _ _ _ _ _ (there (c .before .before .before .before .before .before .before .before .before .before .before .before .before)) (c .before .before .before .before .before .before .before .before .before .before .before .before .next-key .ensures) (c .before .priority-of .ensures) (x .0) (c .rows-after .ensures), rw (c .rows-after .ensures) (x .1))
 
 pub read-cell-spec : {M : Type 1} → statement M
 read-cell-spec =

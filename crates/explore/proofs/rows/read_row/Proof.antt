@@ -10,6 +10,7 @@ use lib.ListN.{length, getD}
 use Rattle.rules.specs.Limits.{maxRows, maxLetters}
 use Rattle.rules.proofs.Arrays.{row-ends}
 use Rattle.rules.proofs.Bools.{and-parts}
+use Rattle.explore.specs.Index.{Linked}
 use Rattle.explore.specs.Cells.{sourceIn}
 use Rattle.explore.proofs.Steps.{row-fits, step-here}
 use Rattle.explore.proofs.Rounds.{RowPart, row-begun, row-next, row-done}
@@ -18,7 +19,7 @@ use Rattle.explore.proofs.rows.read_row.Tie as tie
 
 abbrev Inv-loop : tie.InvT-loop
 Inv-loop task cells i n capacity keys₀ heads₀ links₀ targets₀ priorities₀ m key first effects known₀ a₀ keys heads links targets priorities known a =
-    RowPart task cells capacity n i a keys₀ keys heads links targets₀ targets priorities₀ priorities known
+    RowPart task cells capacity n i a keys₀ keys targets₀ targets priorities₀ priorities known × (known ≤ capacity → Linked capacity known keys heads links)
     × (length heads ≡ length heads₀) × (length links ≡ length links₀)
 
 abbrev μ-loop : tie.MeasureT-loop
@@ -76,7 +77,7 @@ read-cell-requires c κs =
     let u = c .before .before .before .before .before .before .before in
     let s = c .before .before .before .before .before .before .before .before .before .before .before .before .before .before .before .before .before .before .before .before in
     let k = c .before .before .before .before .before .before .before .before .before .loop .inv .0 .known (tests u .1) in
-    (k .filed, c .before .before .before .before .before .before .before .before .before .before .before .write-effects .ensures (c .before .before .before .before .before .before .before .before .before .loop .a) (tests u .0) .small, omega (arith, tests u .0, in-rows s, k .target-room), omega (arith, tests u .0, in-rows s, k .priority-room))
+    (k .filed, c .before .before .before .before .before .before .before .before .before .loop .inv .1 (tests u .1), c .before .before .before .before .before .before .before .before .before .before .before .write-effects .ensures (c .before .before .before .before .before .before .before .before .before .loop .a) (tests u .0) .small, omega (arith, tests u .0, in-rows s, k .target-room), omega (arith, tests u .0, in-rows s, k .priority-room))
 
 add-a : tie.Need-add-a Inv-loop μ-loop
 add-a c = omega (arith, tests (c .before .before .before .before .before .before .before .before .before .before .before .before .before .before .before .before .before .before) .0, c .before .before .before .before .before .before .before .before .before .before .before .before .before .before .before .before .before .before .before .before .before .before .before .before .before .before .before .before .before .before .before .pre .0 .most-letters)
@@ -93,23 +94,23 @@ loop-again c =
     let call = c .before .before .before .before .before .before .before .before .before .before .read-cell in
     let effect = c .before .before .before .before .before .before .before .before .before .before .before .before .before .before .before .before .before .before .before .before .before .before .write-effects .ensures (turn .a) (tests u .0) in
     let step = step-here (s .args .task) (s .args .cells .now) (v s) (getD (turn .keys) (s .args .i) 0) (turn .a) _ _ (f .0 .front (tests u .1)) refl (effect .is) in
-    (row-next (s .args .task) (s .args .cells .now) _ _ _ _ _ _ _ _ _ _ _ _ _ _ _ _ _ _ _ (s .pre .0) (s .pre .1) (tests u .0) (tests u .1) (f .0) _ step (call .ensures), call .kept .1 .1 .1 .1 .1 .1 .0 ∙ f .1, call .kept .1 .1 .1 .1 .1 .1 .1 .0 ∙ f .2)
+    (row-next (s .args .task) (s .args .cells .now) _ _ _ _ _ _ _ _ _ _ _ _ _ _ _ (s .pre .0) (s .pre .1) (tests u .0) (tests u .1) (f .0) _ step (call .ensures .0), call .ensures .1, call .kept .1 .1 .1 .1 .1 .1 .0 ∙ f .2, call .kept .1 .1 .1 .1 .1 .1 .1 .0 ∙ f .3)
 
 returns : tie.Need-returns Inv-loop μ-loop
 returns c =
     let s = c .before .before .before .before .before .before .before .before .before .before .before .before .before .args in
-    row-done (s .task) (s .cells .now) _ _ _ _ _ _ _ _ _ _ _ _ _ (c .if1 .left) (c .before .before .loop .inv .0)
+    (row-done (s .task) (s .cells .now) _ _ _ _ _ _ _ _ _ _ _ (c .if1 .left) (c .before .before .loop .inv .0), c .before .before .loop .inv .1)
 
 pub read-row-spec : {M : Type 1} → statement M
 read-row-spec =
     tie.close
     (tie.spec Inv-loop μ-loop (λ c. search needs) (λ c. search needs) cast-first
     (λ c. omega (arith, row-cells (c .before .before .before .before .before .before .before))) (λ c. search needs) write-effects-requires
-    (λ c. (row-begun _ _ _ _ _ _ _ _ _ _ (c .before .before .before .before .before .before .before .before .before .before .pre .2), refl, refl))
+    (λ c. (row-begun _ _ _ _ _ _ _ _ (c .before .before .before .before .before .before .before .before .before .before .pre .2), λ h. c .before .before .before .before .before .before .before .before .before .before .pre .3, refl, refl))
     (λ c. omega (arith, tests c .0, row-cells (c .before .before .before .before .before .before .before .before .before .before .before .before .before)))
     (λ c. omega (arith, tests c .0, row-cells (c .before .before .before .before .before .before .before .before .before .before .before .before .before)))
     shared-slice-read-read-cell (λ c. omega (arith, letter-few (c .before)))
     (λ c. omega (arith, letter-few (c .before))) mul-read-cell-3 add-read-cell-2 read-cell-requires add-a
-    loop-less loop-again (λ c. c .before .before .loop .inv .0 .key-rest .size) (λ c. c .before .before .loop .inv .1)
-    (λ c. c .before .before .loop .inv .2) (λ c. c .before .before .loop .inv .0 .target-rest .size)
+    loop-less loop-again (λ c. c .before .before .loop .inv .0 .key-rest .size) (λ c. c .before .before .loop .inv .2)
+    (λ c. c .before .before .loop .inv .3) (λ c. c .before .before .loop .inv .0 .target-rest .size)
     (λ c. c .before .before .loop .inv .0 .priority-rest .size) returns)

@@ -6,6 +6,7 @@ use borrow.Author.Tests.{ltb-true, leb-true}
 use lib.Dec.{ltb, leb}
 use lib.ListN.{length}
 use Rattle.rules.proofs.Bools.{and-parts}
+use Rattle.explore.specs.Index.{Linked}
 use Rattle.explore.specs.Exploring.{RowsPart}
 use Rattle.explore.proofs.Rounds.{part-begun, rows-next}
 use Rattle.explore.proofs.rows.read_rows.Statement.{statement}
@@ -13,7 +14,7 @@ use Rattle.explore.proofs.rows.read_rows.Tie as tie
 
 abbrev Inv-loop : tie.InvT-loop
 Inv-loop task cells row n limit capacity keys₀ heads₀ links₀ targets₀ priorities₀ known₀ i₀ keys heads links targets priorities known i =
-    RowsPart task cells capacity i keys₀ keys heads links targets₀ targets priorities₀ priorities known
+    RowsPart task cells capacity i keys₀ keys targets₀ targets priorities₀ priorities known × (known ≤ capacity → Linked capacity known keys heads links)
     × (n ≤ known) × (known ≤ limit + task .letters) × (length heads ≡ length heads₀) × (length links ≡ length links₀)
 
 abbrev μ-loop : tie.MeasureT-loop
@@ -35,12 +36,12 @@ module _ (c : tie.In-loop Inv-loop μ-loop) where
 loop-holds : tie.Need-loop-holds Inv-loop μ-loop
 loop-holds c =
     let s = c .before .before .before .before .before .before in
-    (part-begun (s .args .task) (s .args .cells .now) _ _ _ _ _ _ _ _ (s .pre .3), omega arith, s .pre .2, refl, refl)
+    (part-begun (s .args .task) (s .args .cells .now) _ _ _ _ _ _ (s .pre .3), λ h. s .pre .4, omega arith, s .pre .2, refl, refl)
 
 read-row-requires : tie.Need-read-row-requires Inv-loop μ-loop
 read-row-requires c κs =
     let u = c .before .before .before .before .before in
-    (s u .pre .0, tests u .0, c .before .before .before .before .before .before .loop .inv .0 .stage (few u) .known)
+    (s u .pre .0, tests u .0, c .before .before .before .before .before .before .loop .inv .0 .stage (few u) .known, c .before .before .before .before .before .before .loop .inv .1 (few u))
 
 add-i : tie.Need-add-i Inv-loop μ-loop
 add-i c = omega (arith, tests (c .before .before .before .before .before .before .before .before .before .before .before .before .before .before .before .before), few (c .before .before .before .before .before .before .before .before .before .before .before .before .before .before .before .before), s (c .before .before .before .before .before .before .before .before .before .before .before .before .before .before .before .before) .pre .3 .known .filed .most)
@@ -54,16 +55,16 @@ loop-again c =
     let a = s u .args in
     let call = c .before .before .before .before .before .before .before .before .before .before .read-row in
     let f = c .before .before .before .before .before .before .before .before .before .before .before .before .before .before .before .before .before .loop .inv in
-    (rows-next (a .task) (a .cells .now) _ _ _ _ _ _ _ _ _ _ _ _ _ _ _ _ _ (tests u .0) (few u) (f .0) (call .ensures), omega (arith, call .ensures .longer, f .1), omega (arith, call .ensures .most, tests u .1), call .kept .1 .1 .1 .1 .1 .1 .0 ∙ f .3, call .kept .1 .1 .1 .1 .1 .1 .1 .0 ∙ f .4)
+    (rows-next (a .task) (a .cells .now) _ _ _ _ _ _ _ _ _ _ _ _ _ (tests u .0) (few u) (f .0) (call .ensures .0), call .ensures .1, omega (arith, call .ensures .0 .longer, f .2), omega (arith, call .ensures .0 .most, tests u .1), call .kept .1 .1 .1 .1 .1 .1 .0 ∙ f .4, call .kept .1 .1 .1 .1 .1 .1 .1 .0 ∙ f .5)
 
 returns : tie.Need-returns Inv-loop μ-loop
 returns c =
     let f = c .before .loop .inv in
-    record { part = f .0; longer = f .1; most = f .2; ended = c .loop-test .left }
+    record { part = f .0; longer = f .2; most = f .3; ended = c .loop-test .left }
 
 pub read-rows-spec : {M : Type 1} → statement M
 read-rows-spec =
     tie.close
     (tie.spec Inv-loop μ-loop loop-holds read-row-requires add-i loop-less loop-again (λ c. c .before .loop .inv .0 .key-rest .size)
-    (λ c. c .before .loop .inv .3) (λ c. c .before .loop .inv .4) (λ c. c .before .loop .inv .0 .target-rest .size)
+    (λ c. c .before .loop .inv .4) (λ c. c .before .loop .inv .5) (λ c. c .before .loop .inv .0 .target-rest .size)
     (λ c. c .before .loop .inv .0 .priority-rest .size) returns)
