@@ -2,8 +2,6 @@
 --     has-room             what holds where no array is too short
 --     fit-sizes            what a task that is not unfit has
 --     rows-done            all rows are read, or more than the capacity were found
---     room-narrow          there is room for few rows where there is for more
---     few-done, few-over, few-begun     the same with a small index: few rows; more than the capacity; there may be more
 --     many-after           rows read with a large index behind those read with a small one
 --     answer-unfit, answer-full, answer-rows     the three answers
 use mathlib.Core.Path.{_≡_, refl, sym, ap, _∙_}
@@ -26,9 +24,9 @@ use Rattle.explore.specs.declared.Task.{Task}
 use Rattle.explore.specs.declared.Explored.the-variants.{Rows, Full, Unfit}
 use Rattle.explore.specs.Cells.{sourceIn, strays}
 use Rattle.explore.specs.Effects.{keyPlan}
-use Rattle.explore.specs.Exploring.{statesIn, isUnfit, Closed, Room, Stage, RowsPart, RowsSay, fewRows, fewLimit, ExploresAll, ExploreSays}
+use Rattle.explore.specs.Exploring.{statesIn, isUnfit, Closed, Room, RowsPart, ExploresAll, ExploreSays}
 use Rattle.rules.proofs.Filling.{beyond-then, beyond-wider, cells-over, front-over}
-use Rattle.explore.proofs.Rounds.{stage-wider, all-read, all-over}
+use Rattle.explore.proofs.Rounds.{all-read, all-over}
 
 -- ---- what can be explored
 pub has-room : (m c : ℕ) (ts ps keys : List ℕ) → areShort c m (length ts) (length ps) (length keys) (length keys) ≡ false → Room m c ts ps keys
@@ -72,74 +70,22 @@ module _ (t : Task) (cells : List ℕ) where
   abbrev g : Plan ℕ
   g = keyPlan t cells
 
-  -- all rows were read, unless there are too many
-  end-reached : (l i r : ℕ) → i ≤ r → r ≤ l → ltb i r && leb r l ≡ false → i ≡ r
-  end-reached l i r within few ended =
-      by (ltb i r) (λ e. absurd (omega (arith, leb-false r l (rw e at ended)))) (λ e. omega (arith, ltb-false i r e))
-
-  part-read : (c c₀ i r : ℕ) (keys keys′ ts ts′ ps ps′ : List ℕ) → i ≡ r → r ≤ c₀ → r ≤ c → RowsPart t cells c₀ i keys keys′ ts ts′ ps ps′ r
-      → ExploresAll t cells c keys keys′ ts ts′ ps ps′ r
-  part-read c c₀ i r keys keys′ ts ts′ ps ps′ z l few part =
-      let p = rw z at part in
-      all-read t cells c keys ts ps c₀ r keys′ ts′ ps′ few (p .stage l) (p .new-rest l) (p .target-rest) (p .priority-rest)
-
-  pub rows-done : (n c i : ℕ) (keys keys′ ts ts′ ps ps′ : List ℕ) (r : ℕ) → RowsSay t cells n c c i keys keys′ ts ts′ ps ps′ r
-      → ExploresAll t cells c keys keys′ ts ts′ ps ps′ r
-  rows-done n c i keys keys′ ts ts′ ps ps′ r s =
-      by
-      (ltb c r)
-      (λ e. all-over t cells c keys ts ps i r keys′ ts′ ps′ (ltb-true c r e) (s .part))
-      (λ e. let few = ltb-false c r e in part-read c c i r keys keys′ ts ts′ ps ps′ (end-reached c i r (s .part .stage few .within) few (s .ended)) few few (s .part))
-
-  -- with a small index first
-  pub room-narrow : (c : ℕ) (ts ps keys : List ℕ) → Room (t .letters) c ts ps keys
-      → Room (t .letters) (pick (ltb c fewRows) c fewRows) ts ps keys × (pick (ltb c fewRows) c fewRows ≤ fewRows) × (pick (ltb c fewLimit) c fewLimit ≤ pick (ltb c fewRows) c fewRows)
-  room-narrow c ts ps keys room =
-      by (ltb c fewRows)
-      (λ e. let small = ltb-true c fewRows e in rw e (room, omega arith, by (ltb c fewLimit) (λ f. rw f (omega arith)) (λ f. rw f (ltb-false c fewLimit f))))
-      (λ e. let wide = ltb-false c fewRows e in
-      let cells-few : fewRows * t .letters ≤ c * t .letters = mul-le-mul wide (omega arith) in
-      rw (e, le-ltb c fewLimit (omega arith)) (record { some-rows = omega arith; most-rows = omega arith; target-room = omega (arith, room .target-room); priority-room = omega (arith, room .priority-room); key-room = omega (arith, room .key-room) }, omega arith, omega arith))
-
-  module _ (c : ℕ) (letters : t .letters ≤ maxLetters) (i : ℕ) (keys keys′ ts ts′ ps ps′ : List ℕ) (r : ℕ) (s : RowsSay t cells 1 (pick (ltb c fewLimit) c fewLimit) (pick (ltb c fewRows) c fewRows) i keys keys′ ts ts′ ps ps′ r) where
-    room : ℕ
-    room = pick (ltb c fewRows) c fewRows
-
-    room-few : room ≤ c
-    unfolding room
-    room-few = by (ltb c fewRows) (λ e. rw e (omega arith)) (λ e. rw e (ltb-false c fewRows e))
-
-    -- the small index has room for all rows that are known, unless there are more than the capacity
-    few : r ≤ c → r ≤ room
-    unfolding room
-    few h =
-        by (ltb c fewRows) (λ e. rw e h)
-        (λ e. let l = ltb-false c fewRows e in let most = rw (le-ltb c fewLimit (omega arith)) at (s .most) in rw e (omega arith))
-
-    part : RowsPart t cells room i keys keys′ ts ts′ ps ps′ r
-    unfolding room
-    part = s .part
-
-    pub few-done : i ≡ r → ExploresAll t cells c keys keys′ ts ts′ ps ps′ r
-    few-done z =
-        let l : r ≤ room = omega (arith, part .few) in
-        part-read c room i r keys keys′ ts ts′ ps ps′ z l (omega (arith, room-few)) part
-
-    pub few-over : c < r → ExploresAll t cells c keys keys′ ts ts′ ps ps′ r
-    few-over more =
+  module _ (c i : ℕ) (keys keys′ ts ts′ ps ps′ : List ℕ) (r : ℕ) (part : RowsPart t cells c i keys keys′ ts ts′ ps ps′ r) where
+    pub rows-done : (i < r → r ≤ c → ⊥) → ExploresAll t cells c keys keys′ ts ts′ ps ps′ r
+    rows-done ended =
         by
-        (ltb c fewRows)
-        (λ e. all-over t cells c keys ts ps i r keys′ ts′ ps′ more (rw e at (s .part)))
-        (λ e. let l = ltb-false c fewRows e in let most = rw (le-ltb c fewLimit (omega arith)) at (s .most) in absurd (omega arith))
-
-    pub few-begun : Room (t .letters) c ts′ ps′ keys′ → r ≤ c → Stage t cells c i r keys′ ts′ ps′
-    few-begun wide h = stage-wider t cells room c i r keys′ ts′ ps′ room-few wide (part .stage (few h))
+        (ltb c r)
+        (λ e. all-over t cells c keys ts ps i r keys′ ts′ ps′ (ltb-true c r e) part)
+        (λ e. let few = ltb-false c r e in
+        let z : i ≡ r = by (ltb i r) (λ b. absurd (ended (ltb-true i r b) few)) (λ b. omega (arith, ltb-false i r b, part .stage few .within)) in
+        let p = rw z at part in
+        all-read t cells c keys ts ps r keys′ ts′ ps′ few (p .stage few) (p .new-rest few) (p .target-rest) (p .priority-rest))
 
     pub many-after : r ≤ c → (keys″ ts″ ps″ : List ℕ) (r′ : ℕ) → r ≤ r′ → ExploresAll t cells c keys′ keys″ ts′ ts″ ps′ ps″ r′
         → ExploresAll t cells c keys keys″ ts ts″ ps ps″ r′
     many-after h keys″ ts″ ps″ r′ more x =
-        let within = part .stage (few h) .within in
-        let rest = part .new-rest (few h) in
+        let within = part .stage h .within in
+        let rest = part .new-rest h in
         record {
           full = x .full;
           rows = x .rows;

@@ -1,7 +1,6 @@
 -- The index of keys: what its chains hold, and how a key is found along one.
 --     slot-below         the slot of a key is a slot
 --     indexed-none, indexed-more     the index of no key; one key more, behind keys that stay as they are
---     linked-few         an index with links for more is one with links for fewer
 --     Sought slots n key keys at     the search for a key stands at `at`: every place of the key among the first n is below it
 --     next-below         a link falls
 --     sought-first, sought-next      the search begins at a slot's head, and goes on along the links
@@ -15,7 +14,7 @@ use lib.ListN.{length, getD, set}
 use lib.Seq.{getD-set-same, getD-set-other}
 use borrow.Author.Tests.{eqb-true, eqb-false}
 use Rattle.rules.proofs.Bools.{by}
-use Rattle.explore.specs.Index.{slotOf, nearest, Indexed, Linked}
+use Rattle.explore.specs.Index.{slotOf, nearest, Indexed}
 
 pub slot-below : (slots key : ℕ) → 0 < slots → slotOf slots key < slots
 slot-below slots key some = omega (arith, and-le-l (slots - 1) (key * 2246822507 % 4294967296 / 262144))
@@ -77,9 +76,6 @@ indexed-more slots n key keys keys′ heads links some lh ll old last x =
             rw
             (getD-set-other links n i (getD heads (slotOf slots key) 0) 0 d, old i b, nearest-same slots keys′ keys (slotOf slots (getD keys i 0)) i (λ j k. old j (omega arith)))
             (x .link i b)
-
-pub linked-few : (c c′ n : ℕ) (keys heads links : List ℕ) → c ≤ c′ → Linked c′ n keys heads links → Linked c n keys heads links
-linked-few c c′ n keys heads links l x = record { some-slots = x .some-slots; link-room = omega (arith, x .link-room); chains = x .chains }
 
 -- ---- the search along a chain
 pub record Sought (slots n key : ℕ) (keys : List ℕ) (at : ℕ) : Type 0 where

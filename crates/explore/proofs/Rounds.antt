@@ -3,7 +3,6 @@
 --     row-begun, row-next, row-done     no letter; one letter more; all letters, or more rows than there is room for
 --     stage-begun           the first row is known, and none is read
 --     part-begun, part-after, rows-next     no row more than at a stage is read; the first row was filed before; one row more
---     stage-wider           a stage with room for more rows
 --     all-read, all-over    all rows are read; more than the capacity were found
 use mathlib.Core.Path.{_≡_, refl, sym, ap, _∙_}
 use mathlib.Core.Bool.{false, _&&_, and-false}
@@ -132,7 +131,6 @@ module _ (t : Task) (cells : List ℕ) where
           over = λ h. let e : (m - a) + a ≡ m = omega (arith, f .letters) in
               let longer = rw e at (by-grows g law (m - a) a 0 v rs) in omega (arith, f .over h);
           longer = f .longer;
-          most = omega (arith, f .most, f .letters);
           key-rest = f .key-rest;
           new-rest = f .new-rest;
           target-rest = f .target-rest;
@@ -178,18 +176,6 @@ module _ (t : Task) (cells : List ℕ) where
 
       one-key : (j : ℕ) → j < 1 → Fits (t .letters) cells (getD keys j 0)
       one-key j l = let z : j ≡ 0 = omega arith in rw (z, getD-set-same old 0 (t .start) 0 some) (closed .start)
-
-  -- room for more rows
-  pub stage-wider : (c c′ i n : ℕ) (keys ts ps : List ℕ) → c ≤ c′ → Room (t .letters) c′ ts ps keys → Stage t cells c i n keys ts ps → Stage t cells c′ i n keys ts ps
-  stage-wider c c′ i n keys ts ps wide room s =
-      let k = s .known in
-      let f = k .filed in
-      record {
-        within = s .within;
-        known =
-            record { filed = record { few = omega (arith, f .few); most = room .most-rows; key-room = room .key-room; apart = f .apart }; fits = k .fits; read = k .read; target-room = room .target-room; priority-room = room .priority-room };
-        goes-on = s .goes-on;
-      }
 
   module _ (c : ℕ) (keys ts ps : List ℕ) where
     pub part-begun : (i n : ℕ) → Stage t cells c i n keys ts ps → RowsPart t cells c i keys keys ts ts ps ps n
@@ -256,9 +242,9 @@ module _ (t : Task) (cells : List ℕ) where
             (rw e at (before .goes-on d l)) ∙ from-on plan (law t cells) (d - i) i d (take r keys₁) (rw (length-take-le r keys₁ room) (and-both (ltb i r) (leb r d) (lt-ltb i r li) (le-leb r d l))) ∙ rw (key-row plan r keys₁ i li room)
 
     -- what was found, of all rows
-    pub all-read : (c₀ r : ℕ) (keys′ ts′ ps′ : List ℕ) → r ≤ c → Stage t cells c₀ r r keys′ ts′ ps′ → Beyond r keys keys′
+    pub all-read : (r : ℕ) (keys′ ts′ ps′ : List ℕ) → r ≤ c → Stage t cells c r r keys′ ts′ ps′ → Beyond r keys keys′
         → Beyond (r * t .letters) ts ts′ → Beyond (r * t .letters) ps ps′ → ExploresAll t cells c keys keys′ ts ts′ ps ps′ r
-    all-read c₀ r keys′ ts′ ps′ few s a b d =
+    all-read r keys′ ts′ ps′ few s a b d =
         record {
           full = le-ltb c r few ∙ sym (le-ltb c (length (rowsOf plan c)) (omega (arith, many)));
           rows = λ h. sym rows-are;

@@ -105,11 +105,10 @@ module _ (c key n : ℕ) (keys : List ℕ) (f : Filed c n keys) where
           key-rest = beyond-set c keys n key l;
         }
 
-    pub linked-more : (heads heads′ links links′ : List ℕ) → Linked c n keys heads links → KeyIndexed key n heads heads′ links links′
-        → Linked c (suc n) (set keys n key) heads′ links′
-    linked-more heads heads′ links links′ x y =
+    pub linked-more : (heads heads′ links links′ : List ℕ) → n < length links → Linked n keys heads links → KeyIndexed key n heads heads′ links links′
+        → Linked (suc n) (set keys n key) heads′ links′
+    linked-more heads heads′ links links′ ll x y =
         let some = x .some-slots in
-        let ll : n < length links = omega (arith, x .link-room) in
         rw
         (y .head-array, y .link-array)
-        (record { some-slots = simp length-set some; link-room = simp length-set (x .link-room); chains = rw (length-set heads (slotOf (length heads) key) (suc n)) (indexed-more (length heads) n key keys (set keys n key) heads links some (omega arith) ll (λ i b. getD-set-other keys n i key 0 (λ z. omega arith)) (getD-set-same keys n key 0 lk) (x .chains)) })
+        (record { some-slots = simp length-set some; enough = simp length-set ll; chains = rw (length-set heads (slotOf (length heads) key) (suc n)) (indexed-more (length heads) n key keys (set keys n key) heads links some (omega arith) ll (λ i b. getD-set-other keys n i key 0 (λ z. omega arith)) (getD-set-same keys n key 0 lk) (x .chains)) })

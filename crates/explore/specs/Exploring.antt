@@ -5,11 +5,11 @@
 --     Fits m cells v               the cells of the key's state are among the cells
 --     Closed t cells               the letters are in range, and the start and every code lead to keys that fit
 --     Room m c ts ps keys          the capacity c is in range, and the lent arrays have room for as many rows
+--     LinkRoom c k links           there is a link for each place below both c and k
 --     StepRead x c n p ..          a cell whose step is x has been read; there is no plan here
 --     Known t cells c n p ..       n keys are filed, the cells below p are read
 --     RowSays t cells c n i ..     row i has been read by all letters
 --     Stage t cells c i n ..       the rows below i are read, n are known, and the exploration goes on from here, whatever the capacity
---     fewRows, fewLimit            the rows of a small index, and up to how many the next row leads to no more
 --     RowsPart t cells c i .. r    what reading the rows below i leaves, r being known: a stage, or more than c
 --     RowsSay t cells n l c i .. r the same from n known rows on, where all rows were read or more than l are known
 --     ExploresAll t cells c .. r   all rows have been read, or more than c were found
@@ -61,6 +61,9 @@ pub record Room (m c : ℕ) (ts ps keys : List ℕ) : Type 0 where
   pub priority-room : c * m ≤ length ps
   pub key-room : c ≤ length keys
 
+abbrev pub LinkRoom : ℕ → ℕ → List ℕ → Type 0
+LinkRoom c k links = (x : ℕ) → x < c → x < k → x < length links
+
 -- ---- cells and rows that are read
 pub record StepRead (x : Step ℕ) (c n p : ℕ) (keys keys′ ts ts′ ps ps′ : List ℕ) (r : ℕ) : Type 0 where
   pub count : r ≡ pick (x .there) (rowsAfter n (numberAmong (x .to) n keys)) n
@@ -82,7 +85,6 @@ pub record RowSays (t : Task) (cells : List ℕ) (c n i : ℕ) (keys keys′ ts 
   pub rows : r ≤ c → take r keys′ ≡ foundBy (t .letters) 0 (keyPlan t cells) (getD keys i 0) (take n keys)
   pub over : c < r → c < length (foundBy (t .letters) 0 (keyPlan t cells) (getD keys i 0) (take n keys))
   pub longer : n ≤ r
-  pub most : r ≤ n + t .letters
   pub key-rest : Beyond c keys keys′
   pub new-rest : r ≤ c → Beyond r keys keys′
   pub target-rest : Beyond (suc i * t .letters) ts ts′
@@ -93,12 +95,6 @@ pub record Stage (t : Task) (cells : List ℕ) (c i n : ℕ) (keys ts ps : List 
   pub within : i ≤ n
   pub known : Known t cells c n (i * t .letters) keys ts ps
   pub goes-on : (d : ℕ) → n ≤ d → rowsOf (keyPlan t cells) d ≡ foundFrom (suc d - i) i (keyPlan t cells) d (take n keys)
-
-abbrev pub fewRows : ℕ
-fewRows = 64
-
-abbrev pub fewLimit : ℕ
-fewLimit = 48
 
 pub record RowsPart (t : Task) (cells : List ℕ) (c i : ℕ) (keys keys′ ts ts′ ps ps′ : List ℕ) (r : ℕ) : Type 0 where
   pub few : i ≤ c
@@ -112,8 +108,7 @@ pub record RowsPart (t : Task) (cells : List ℕ) (c i : ℕ) (keys keys′ ts t
 pub record RowsSay (t : Task) (cells : List ℕ) (n l c i : ℕ) (keys keys′ ts ts′ ps ps′ : List ℕ) (r : ℕ) : Type 0 where
   pub part : RowsPart t cells c i keys keys′ ts ts′ ps ps′ r
   pub longer : n ≤ r
-  pub most : r ≤ l + t .letters
-  pub ended : ltb i r && leb r l ≡ false
+  pub ended : i < r → r ≤ l → r ≤ c → ⊥
 
 pub record ExploresAll (t : Task) (cells : List ℕ) (c : ℕ) (keys keys′ ts ts′ ps ps′ : List ℕ) (r : ℕ) : Type 0 where
   pub full : ltb c r ≡ isFull (keyPlan t cells) c

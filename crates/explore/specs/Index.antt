@@ -2,7 +2,7 @@
 --     slotOf slots key             the slot of a key among so many (multiplicative hashing)
 --     nearest slots keys s n       one more than the last place below n whose key has the slot s, 0 if there is none
 --     Indexed slots n keys heads links     heads has the nearest place for each slot, links the one before each place, of the same slot
---     Linked c n keys heads links  such an index of n keys, with some slots and links for c
+--     Linked n keys heads links    such an index of n keys, with some slots
 --     Apart n keys                 no key stands twice among the first n
 --     numberAmong key n keys       the place of the key among the first n, n if it is absent
 --     Finds n key keys f           f is the place of the key among the first n, or says that it is absent
@@ -29,9 +29,9 @@ pub record Indexed (slots n : ℕ) (keys heads links : List ℕ) : Type 0 where
   pub head : (s : ℕ) → s < slots → getD heads s 0 ≡ nearest slots keys s n
   pub link : (i : ℕ) → i < n → getD links i 0 ≡ nearest slots keys (slotOf slots (getD keys i 0)) i
 
-pub record Linked (c n : ℕ) (keys heads links : List ℕ) : Type 0 where
+pub record Linked (n : ℕ) (keys heads links : List ℕ) : Type 0 where
   pub some-slots : 0 < length heads
-  pub link-room : c ≤ length links
+  pub enough : n ≤ length links
   pub chains : Indexed (length heads) n keys heads links
 
 abbrev pub Apart : ℕ → List ℕ → Type 0

@@ -3,7 +3,8 @@ use crate::index::Found;
 use crate::index::find_key;
 use crate::index::index_key;
 ghost use mathlib.Core.Path.{_≡_};
-ghost use Prim.Native.Nat.{_≤_};
+ghost use Prim.Native.Nat.{_<_, _≤_};
+ghost use lib.ListN.{length};
 ghost use Rattle.rules.specs.Limits.{maxRows};
 ghost use Rattle.explore.specs.Index.{Linked};
 ghost use Rattle.explore.specs.Filing.{Filed, rowsAfter, Settles};
@@ -17,8 +18,8 @@ pub(crate) fn settle(
     heads: &mut [u16],
     links: &mut [u16],
 ) -> usize
-    requires { ⌜ Filed capacity n (now keys) × Linked capacity n (now keys) (now heads) (now links) ⌝ }
-    ensures { λ r. ⌜ Settles capacity key n (now (keys .entry)) (now (keys .exit)) r × (rowsAfter n r ≤ capacity → Linked capacity (rowsAfter n r) (now (keys .exit)) (now (heads .exit)) (now (links .exit))) ⌝ }
+    requires { ⌜ Filed capacity n (now keys) × Linked n (now keys) (now heads) (now links) × (n < capacity → n < length (now links)) ⌝ }
+    ensures { λ r. ⌜ Settles capacity key n (now (keys .entry)) (now (keys .exit)) r × (rowsAfter n r ≤ capacity → Linked (rowsAfter n r) (now (keys .exit)) (now (heads .exit)) (now (links .exit))) ⌝ }
 {
     let found = find_key(key, n, keys, heads, links);
     let Found::At(number) = found else {

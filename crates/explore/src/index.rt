@@ -22,7 +22,7 @@ fn slot(key: u32, slots: usize) -> usize
 
 // Looks a key up among the first n.
 pub(crate) fn find_key(key: u32, n: usize, keys: &[u32], heads: &[u16], links: &[u16]) -> Found
-    requires { ⌜ Linked n n (now keys) (now heads) (now links) × (n ≤ length (now keys)) ⌝ }
+    requires { ⌜ Linked n (now keys) (now heads) (now links) × (n ≤ length (now keys)) ⌝ }
     ensures { λ r. ⌜ Finds n key (now (keys .entry)) r ⌝ }
 {
     let mut at = heads[slot(key, heads.len())];
@@ -50,7 +50,7 @@ pub(crate) fn index_key(key: u32, n: usize, heads: &mut [u16], links: &mut [u16]
 // Indexes the first n keys, in an index that is empty.
 pub(crate) fn index_keys(n: usize, keys: &[u32], heads: &mut [u16], links: &mut [u16])
     requires { ⌜ (n ≤ maxRows) × (n ≤ length (now keys)) × (0 < length (now heads)) × (n ≤ length (now links)) × ((s : _) → getD (now heads) s 0 ≡ 0) ⌝ }
-    ensures { λ _. ⌜ Linked (length (now (links .entry))) n (now (keys .entry)) (now (heads .exit)) (now (links .exit)) ⌝ }
+    ensures { λ _. ⌜ Linked n (now (keys .entry)) (now (heads .exit)) (now (links .exit)) ⌝ }
 {
     let mut i = 0;
     // the first i keys are indexed

@@ -17,11 +17,10 @@ ghost use mathlib.Core.Bool.{false};
 ghost use Prim.Native.Nat.{_+_, _*_, _<_, _≤_};
 ghost use lib.Dec.{ltb};
 ghost use lib.ListN.{length};
-ghost use Rattle.rules.specs.Basics.{pick};
 ghost use Rattle.explore.specs.Cells.{span, crossingKind, stepIn};
 ghost use Rattle.explore.specs.Filing.{Filed};
 ghost use Rattle.explore.specs.Index.{Linked};
-ghost use Rattle.explore.specs.Exploring.{StepRead, Closed, Known, RowSays, Room, Stage, RowsSay, ExploresAll};
+ghost use Rattle.explore.specs.Exploring.{LinkRoom, StepRead, Closed, Known, RowSays, Room, Stage, RowsSay, ExploresAll};
 
 // The rows of a small index, and its slots. While few rows are known, clearing the large one would take longer than reading them.
 const FEW_ROWS: usize = 64;
@@ -38,16 +37,6 @@ const SLOTS: usize = 16384;
 pub(crate) struct Progress {
     pub row: usize,
     pub known: usize,
-}
-
-// The smaller of two numbers.
-fn min_of(a: usize, b: usize) -> usize
-    ensures { λ r. ⌜ r ≡ pick (ltb a b) a b ⌝ }
-{
-    if a < b {
-        return a;
-    }
-    b
 }
 
 // The key to which the transition of a code leads that is there.
@@ -85,8 +74,8 @@ fn read_cell(
     targets: &mut [u16],
     priorities: &mut [u8],
 ) -> usize
-    requires { ⌜ Filed capacity n (now keys) × Linked capacity n (now keys) (now heads) (now links) × (effect < 256 * span) × (p < length (now targets)) × (p < length (now priorities)) ⌝ }
-    ensures { λ r. ⌜ StepRead (stepIn code effect) capacity n p (now (keys .entry)) (now (keys .exit)) (now (targets .entry)) (now (targets .exit)) (now (priorities .entry)) (now (priorities .exit)) r × (r ≤ capacity → Linked capacity r (now (keys .exit)) (now (heads .exit)) (now (links .exit))) ⌝ }
+    requires { ⌜ Filed capacity n (now keys) × Linked n (now keys) (now heads) (now links) × (n < capacity → n < length (now links)) × (effect < 256 * span) × (p < length (now targets)) × (p < length (now priorities)) ⌝ }
+    ensures { λ r. ⌜ StepRead (stepIn code effect) capacity n p (now (keys .entry)) (now (keys .exit)) (now (targets .entry)) (now (targets .exit)) (now (priorities .entry)) (now (priorities .exit)) r × (r ≤ capacity → Linked r (now (keys .exit)) (now (heads .exit)) (now (links .exit))) ⌝ }
 {
     if code < CROSSING {
         targets[p] = NO_ROW;
@@ -112,8 +101,8 @@ fn read_row(
     targets: &mut [u16],
     priorities: &mut [u8],
 ) -> usize
-    requires { ⌜ Closed task (now cells) × (i < n) × Known task (now cells) capacity n (i * task .letters) (now keys) (now targets) (now priorities) × Linked capacity n (now keys) (now heads) (now links) ⌝ }
-    ensures { λ r. ⌜ RowSays task (now (cells .entry)) capacity n i (now (keys .entry)) (now (keys .exit)) (now (targets .entry)) (now (targets .exit)) (now (priorities .entry)) (now (priorities .exit)) r × (r ≤ capacity → Linked capacity r (now (keys .exit)) (now (heads .exit)) (now (links .exit))) ⌝ }
+    requires { ⌜ Closed task (now cells) × (i < n) × Known task (now cells) capacity n (i * task .letters) (now keys) (now targets) (now priorities) × Linked n (now keys) (now heads) (now links) × LinkRoom capacity (n + task .letters) (now links) ⌝ }
+    ensures { λ r. ⌜ RowSays task (now (cells .entry)) capacity n i (now (keys .entry)) (now (keys .exit)) (now (targets .entry)) (now (targets .exit)) (now (priorities .entry)) (now (priorities .exit)) r × (r ≤ capacity → Linked r (now (keys .exit)) (now (heads .exit)) (now (links .exit))) ⌝ }
 {
     let rule = task.rule;
     let m = task.letters;
@@ -142,8 +131,7 @@ fn read_row(
     known
 }
 
-// Reads rows from number `row` on, where n are known, until all are read or more than `limit` are known. More than the capacity may be
-// known then, and that is the end.
+// Reads rows from number `row` on, where n are known, until all are read or more than `limit` or the capacity are known.
 fn read_rows(
     task: Task,
     cells: &[u32],
@@ -157,13 +145,13 @@ fn read_rows(
     targets: &mut [u16],
     priorities: &mut [u8],
 ) -> Progress
-    requires { ⌜ Closed task (now cells) × (limit ≤ capacity) × (n ≤ limit + task .letters) × Stage task (now cells) capacity row n (now keys) (now targets) (now priorities) × Linked capacity n (now keys) (now heads) (now links) ⌝ }
+    requires { ⌜ Closed task (now cells) × Stage task (now cells) capacity row n (now keys) (now targets) (now priorities) × Linked n (now keys) (now heads) (now links) × LinkRoom capacity (limit + task .letters) (now links) ⌝ }
     ensures { λ r. ⌜ RowsSay task (now (cells .entry)) n limit capacity (r .row) (now (keys .entry)) (now (keys .exit)) (now (targets .entry)) (now (targets .exit)) (now (priorities .entry)) (now (priorities .exit)) (r .known) ⌝ }
 {
     let mut known = n;
     let mut i = row;
     // the rows below i are read
-    while (i < known) & (known <= limit) {
+    while (i < known) & ((known <= limit) & (known <= capacity)) {
         known = read_row(
             task,
             cells,
@@ -237,8 +225,8 @@ pub(crate) fn explore(
         cells,
         0,
         1,
-        min_of(capacity, FEW_LIMIT),
-        min_of(capacity, FEW_ROWS),
+        FEW_LIMIT,
+        capacity,
         keys,
         &mut heads,
         &mut links,

@@ -4,7 +4,6 @@ use mathlib.Core.Path.{_≡_}
 use Prim.Native.Nat.{ℕ, _<_}
 use native.Mathlib.Omega.{arith}
 use lib.ListN.{getD}
-use Rattle.explore.proofs.Chains.{linked-few}
 use Rattle.explore.proofs.Settling.{rows-old, rows-new, settled-found, settled-full, settled-added, linked-more}
 use Rattle.explore.proofs.filing.settle.Statement.{statement}
 use Rattle.explore.proofs.filing.settle.Tie as tie
@@ -12,11 +11,17 @@ use Rattle.explore.proofs.filing.settle.Tie as tie
 find-key-requires : tie.Need-find-key-requires
 find-key-requires c κs =
     let s = c .before .before .before .before .before .before in
-    (linked-few _ _ _ _ _ _ (s .pre .0 .few) (s .pre .1), omega (arith, s .pre .0 .few, s .pre .0 .key-room))
+    (s .pre .1, omega (arith, s .pre .0 .few, s .pre .0 .key-room))
 
 -- the key is absent
 absent : (c : tie.After-enum-told) → let s = c .before .before .before .before .before .before .before .before .before in (i : ℕ) → i < s .args .n → getD (s .args .keys .now) i 0 ≡ s .args .key → ⊥
 absent c = rw (c .enum-told .given .1) at (c .before .before .find-key .ensures)
+
+index-key-requires : tie.Need-index-key-requires
+index-key-requires c κs =
+    let s = c .before .before .before .before .before .before .before .before .before .before .before .before in
+    let l = c .before .before .if1 .left in
+    (omega (arith, s .pre .0 .most), s .pre .1 .some-slots, s .pre .2 l)
 
 returns : tie.Need-returns
 returns c =
@@ -27,7 +32,7 @@ returns-2 : tie.Need-returns-2
 returns-2 c =
     let s = c .before .before .before .before .before .before .before .before .before .before .before .before .before .before .before .before .before in
     let l = c .before .before .before .before .before .before .before .if1 .left in
-    (settled-added _ _ _ _ (s .pre .0) l (absent (c .before .before .before .before .before .before .before .before)), λ h. rw (rows-new (s .args .n)) (linked-more _ _ _ _ (s .pre .0) l _ _ _ _ (s .pre .1) (c .before .before .before .before .index-key .ensures)))
+    (settled-added _ _ _ _ (s .pre .0) l (absent (c .before .before .before .before .before .before .before .before)), λ h. rw (rows-new (s .args .n)) (linked-more _ _ _ _ (s .pre .0) l _ _ _ _ (s .pre .2 l) (s .pre .1) (c .before .before .before .before .index-key .ensures)))
 
 returns-3 : tie.Need-returns-3
 returns-3 c =
@@ -39,5 +44,5 @@ pub settle-spec : {M : Type 1} → statement M
 settle-spec =
     tie.close
     (tie.spec find-key-requires (λ c. search needs) (λ c. search needs) (λ c. search needs) (λ c. search needs) (λ c. search needs) returns
-    (λ c. search needs) (λ c. search needs) (λ c κs. search needs) (λ c. search needs) (λ c. search needs) (λ c. search needs) returns-2
+    (λ c. search needs) (λ c. search needs) index-key-requires (λ c. search needs) (λ c. search needs) (λ c. search needs) returns-2
     (λ c. search needs) (λ c. search needs) (λ c. search needs) returns-3)

@@ -35,7 +35,7 @@ returns : tie.Need-returns Inv-loop μ-loop
 returns c =
     let i = c .before .loop in
     let s = c .before .before .before .before .before in
-    record { some-slots = omega (arith, s .pre .2, i .inv .2); link-room = omega (arith, i .inv .3); chains = rw (i .inv .2) (rw (le-antisymm (i .inv .0) (c .loop-test .left)) at (i .inv .1)) }
+    record { some-slots = omega (arith, s .pre .2, i .inv .2); enough = omega (arith, s .pre .3, i .inv .3); chains = rw (i .inv .2) (rw (le-antisymm (i .inv .0) (c .loop-test .left)) at (i .inv .1)) }
 
 pub index-keys-spec : {M : Type 1} → statement M
 index-keys-spec =

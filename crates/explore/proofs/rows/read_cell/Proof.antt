@@ -25,7 +25,7 @@ cast-targets c =
     omega (arith, c .before .before .before .before .before .before .settle .ensures .0 .number, number-most (s .args .n) (c .before .before .before .before .before .before .before .before .before .before .next-key .result) (s .args .keys .now) (omega (arith, s .pre .0 .few, s .pre .0 .key-room)), s .pre .0 .few, s .pre .0 .most)
 
 priority-of-requires : tie.Need-priority-of-requires
-priority-of-requires c κs = (there (c .before .before .before .before .before .before .before .before .before .before .before), c .before .before .before .before .before .before .before .before .before .before .before .before .before .before .before .before .before .pre .2)
+priority-of-requires c κs = (there (c .before .before .before .before .before .before .before .before .before .before .before), c .before .before .before .before .before .before .before .before .before .before .before .before .before .before .before .before .before .pre .3)
 
 returns-2 : tie.Need-returns-2
 returns-2 c =

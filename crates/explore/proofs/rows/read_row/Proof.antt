@@ -19,7 +19,7 @@ use Rattle.explore.proofs.rows.read_row.Tie as tie
 
 abbrev Inv-loop : tie.InvT-loop
 Inv-loop task cells i n capacity keys₀ heads₀ links₀ targets₀ priorities₀ m key first effects known₀ a₀ keys heads links targets priorities known a =
-    RowPart task cells capacity n i a keys₀ keys targets₀ targets priorities₀ priorities known × (known ≤ capacity → Linked capacity known keys heads links)
+    RowPart task cells capacity n i a keys₀ keys targets₀ targets priorities₀ priorities known × (known ≤ capacity → Linked known keys heads links)
     × (length heads ≡ length heads₀) × (length links ≡ length links₀)
 
 abbrev μ-loop : tie.MeasureT-loop
@@ -50,6 +50,13 @@ tests c =
     let r = and-parts (ltb (c .before .before .loop .a) (m (c .before .before .before .before .before .before .before .before .before .before .before .before .before))) (leb (c .before .before .loop .known) (c .before .before .before .before .before .before .before .before .before .before .before .before .before .args .capacity)) (c .if1 .taken) in
     (ltb-true _ _ (r .0), leb-true _ _ (r .1))
 
+-- if a row may be filed, there is a link for it
+room : (c : tie.Then1 Inv-loop μ-loop) → let i = c .before .before .loop in i .known < c .before .before .before .before .before .before .before .before .before .before .before .before .before .args .capacity → i .known < length (i .links)
+room c l =
+    let i = c .before .before .loop in
+    let s = c .before .before .before .before .before .before .before .before .before .before .before .before .before in
+    omega (arith, i .inv .3, s .pre .4 (i .known) l (omega (arith, i .inv .0 .most, tests c .0)))
+
 letter-few : (c : tie.Then1 Inv-loop μ-loop) → c .before .before .loop .a < maxLetters
 letter-few c = omega (arith, tests c .0, c .before .before .before .before .before .before .before .before .before .before .before .before .before .pre .0 .most-letters)
 
@@ -77,7 +84,7 @@ read-cell-requires c κs =
     let u = c .before .before .before .before .before .before .before in
     let s = c .before .before .before .before .before .before .before .before .before .before .before .before .before .before .before .before .before .before .before .before in
     let k = c .before .before .before .before .before .before .before .before .before .loop .inv .0 .known (tests u .1) in
-    (k .filed, c .before .before .before .before .before .before .before .before .before .loop .inv .1 (tests u .1), c .before .before .before .before .before .before .before .before .before .before .before .write-effects .ensures (c .before .before .before .before .before .before .before .before .before .loop .a) (tests u .0) .small, omega (arith, tests u .0, in-rows s, k .target-room), omega (arith, tests u .0, in-rows s, k .priority-room))
+    (k .filed, c .before .before .before .before .before .before .before .before .before .loop .inv .1 (tests u .1), λ l. room u l, c .before .before .before .before .before .before .before .before .before .before .before .write-effects .ensures (c .before .before .before .before .before .before .before .before .before .loop .a) (tests u .0) .small, omega (arith, tests u .0, in-rows s, k .target-room), omega (arith, tests u .0, in-rows s, k .priority-room))
 
 add-a : tie.Need-add-a Inv-loop μ-loop
 add-a c = omega (arith, tests (c .before .before .before .before .before .before .before .before .before .before .before .before .before .before .before .before .before .before) .0, c .before .before .before .before .before .before .before .before .before .before .before .before .before .before .before .before .before .before .before .before .before .before .before .before .before .before .before .before .before .before .before .pre .0 .most-letters)
