@@ -22,13 +22,13 @@ ghost use Rattle.explore.specs.Filing.{Filed};
 ghost use Rattle.explore.specs.Index.{Linked};
 ghost use Rattle.explore.specs.Exploring.{LinkRoom, StepRead, Closed, Known, RowSays, Room, Stage, RowsSay, ExploresAll};
 
-// The rows of a small index, and its slots. While few rows are known, clearing the large one would take longer than reading them.
-const FEW_ROWS: usize = 64;
+// Up to how many rows a small index serves, and its slots. While few rows are known, clearing the large one would take longer than reading them.
+const FEW_LIMIT: usize = 128;
 
-const FEW_SLOTS: usize = 128;
+const FEW_SLOTS: usize = 256;
 
-// As long as no more rows are known, a row leads to no more than the small index has room for.
-const FEW_LIMIT: usize = FEW_ROWS - MAX_LETTERS as usize;
+// The rows that it has room for: the next row leads to one more for each letter at most.
+const FEW_ROWS: usize = FEW_LIMIT + MAX_LETTERS as usize;
 
 // The slots of the large index.
 const SLOTS: usize = 16384;

@@ -18,7 +18,7 @@ use Rattle.explore.proofs.rows.explore.Tie as tie
 index-keys-requires : tie.Need-index-keys-requires
 index-keys-requires c κs =
     let r = c .before .before .before .before .before .before .before .pre .1 in
-    (omega arith, simp length-set (omega (arith, r .some-rows, r .key-room)), omega arith, omega arith, zeros-at 128)
+    (omega arith, simp length-set (omega (arith, r .some-rows, r .key-room)), omega arith, omega arith, zeros-at 256)
 
 read-rows-requires : tie.Need-read-rows-requires
 read-rows-requires c κs =
