@@ -1,51 +1,37 @@
--- The marks of a Rabin table that is taken: the bytes of a transition, and when transitions satisfy the table.
---     target-read, prohibited-read, required-read     where q goes by a, and the marks, at the places that the cell's number gives
+-- A Rabin table that is taken: where its cells are, and when transitions satisfy it.
+--     cell-placed          the sizes of the table, and a cell among all cells
 --     union-satisfies      transitions satisfy the table unless each pair that one of them requires is prohibited by one of them
 use mathlib.Core.Path.{_≡_, _∙_}
 use mathlib.Core.Bool.{true, false, not, _&&_}
 use mathlib.Core.List.{List}
-use Prim.Native.Nat.{ℕ, suc, _+_, _-_, _*_, _<_}
+use Prim.Native.Nat.{ℕ, suc, _-_, _*_, _<_}
 use native.Mathlib.Nat.{lt-of-lt-of-le}
 use native.Mathlib.Omega.{arith}
 use lib.Bits.{bitAnd, and-le-l}
 use lib.Dec.{eqb, ltb}
-use lib.ListN.{getD}
 use lib.Pow.{pow-mono}
 use borrow.Author.Tests.{eq-eqb, ne-eqb, ltb-true, ltb-false, not-true}
 use Rattle.rules.specs.Basics.{bit}
 use Rattle.rules.specs.Judges.{satisfiesPair, satisfies}
-use Rattle.rules.specs.Limits.{headerSize}
 use Rattle.rules.specs.Runs as Runs
 use Rattle.rules.specs.Systems.{cell}
-use Rattle.rules.specs.Tables.{Table, tableOf, targetOf}
+use Rattle.rules.specs.Tables.{Table, tableOf}
 use Rattle.rules.proofs.Bits.{bit-and, bit-over, bits-determine}
 use Rattle.rules.proofs.Bools.{by, clash, and-parts}
+use Rattle.rules.proofs.Refusals.{TakenTable, taken-table}
 use Rattle.rules.proofs.Sets.{any-fails, apart, below-find, below-intro}
 use Rattle.tables.specs.Parts.{Taken}
-use Rattle.tables.proofs.Cells.{target-byte, prohibited-byte, required-byte, prohibitedAt, requiredAt, targetAt, marks-small}
+use Rattle.tables.proofs.Cells.{cell-within, marks-small}
 use Rattle.judge.specs.Passes.{Met, prohibitedMarks, requiredMarks}
+
+pub cell-placed : (bs : List ℕ) (q a : ℕ) → Taken bs × (q < tableOf bs .states) × (a < tableOf bs .letters)
+    → TakenTable bs × (cell (tableOf bs .letters) q a < tableOf bs .states * tableOf bs .letters)
+cell-placed bs q a h = (taken-table bs (h .0), cell-within _ _ q a (h .1) (h .2))
 
 module _ (bs : List ℕ) (sound : Taken bs) where
   abbrev t : Table
   t = tableOf bs
 
-  -- ---- the bytes of a transition
-  module _ (q a : ℕ) (l : q < t .states) (r : a < t .letters) where
-    abbrev c : ℕ
-    c = cell (t .letters) q a
-
-    pub target-read : targetOf t q a ≡ getD bs (headerSize + c) 0
-    target-read = let e : targetAt bs q a ≡ headerSize + c = omega arith in target-byte bs sound q a l r ∙ rw e
-
-    pub prohibited-read : prohibitedMarks t (Runs.taken q a) ≡ getD bs (headerSize + t .states * t .letters + 2 * c) 0
-    prohibited-read =
-        let e : prohibitedAt bs q a ≡ headerSize + t .states * t .letters + 2 * c = omega arith in prohibited-byte bs sound q a l r ∙ rw e
-
-    pub required-read : requiredMarks t (Runs.taken q a) ≡ getD bs (headerSize + t .states * t .letters + 2 * c + 1) 0
-    required-read =
-        let e : requiredAt bs q a ≡ headerSize + t .states * t .letters + 2 * c + 1 = omega arith in required-byte bs sound q a l r ∙ rw e
-
-  -- ---- the pairs that are satisfied
   module _ (xs : List Runs.Taken) (p r : ℕ) (l : r < 256) (barred : Met bit (prohibitedMarks t) xs p) (met : Met bit (requiredMarks t) xs r) where
     pair-satisfied : (i : ℕ) → satisfiesPair t (suc i) xs ≡ not (bit i p) && bit i r
     pair-satisfied i = let e : suc i - 1 ≡ i = omega arith in rw (e, barred i, met i)

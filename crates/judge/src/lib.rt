@@ -7,6 +7,7 @@ use rules::limit::MAX_STATES;
 use tables::check_table;
 use tables::letters_of;
 
+mod cells;
 mod parity;
 mod rabin;
 mod sizes;

@@ -1,8 +1,7 @@
 // The run over a Rabin table: the word is read pass by pass, until a pass begins where an earlier one began. Of each pass only the
 // pairs prohibited and the pairs required are kept, so the memory does not grow with the loop, and a pass is read once.
 use crate::Judged;
-use rules::limit::HEADER_SIZE;
-use tables::marks_word;
+use crate::cells;
 ghost use mathlib.Core.Path.{_≡_};
 ghost use mathlib.Core.Bool.{false};
 ghost use Prim.Native.Nat.{_<_, _≤_};
@@ -24,25 +23,18 @@ struct Reading {
     required: u8,
 }
 
-// Reads a piece from a state on, letter by letter, as far as the transitions lead. Between two states stand one product and one read: the
-// targets are cut off the table first, and a letter's column of them while the state is still awaited. Both sets of marks are met as
-// one word.
+// Reads a piece from a state on, letter by letter, as far as the transitions lead. Both sets of marks are met as one word.
 fn read_piece(table: &[u8], piece: &[u8], from: usize) -> Reading
     requires { ⌜ Taken (now table) × (strayLetter (tableOf (now table) .letters) (now piece) ≡ false) × (from < statesOf (now table)) ⌝ }
     ensures { λ r. ⌜ PieceSays (systemIn (now (table .entry))) from (now (piece .entry)) (r .place) (r .read) × MetOn (systemIn (now (table .entry))) bit (prohibitedMarks (tableOf (now (table .entry)))) from (now (piece .entry)) (r .place) (r .prohibited) × MetOn (systemIn (now (table .entry))) bit (requiredMarks (tableOf (now (table .entry)))) from (now (piece .entry)) (r .place) (r .required) ⌝ }
 {
-    let n = table[0] as usize;
-    let m = table[1] as usize;
-    let marks_at = HEADER_SIZE + n * m;
-    let targets = &table[HEADER_SIZE..];
+    let n = cells::states_of(table);
     let mut place = from;
     let mut met = 0;
     let mut i = 0;
     while i < piece.len() {
         let letter = piece[i] as usize;
-        let first = place * m;
-        let column = &targets[letter..];
-        let target = column[first] as usize;
+        let target = cells::target_of(table, place, letter);
         if n <= target {
             return Reading {
                 place: target,
@@ -51,8 +43,7 @@ fn read_piece(table: &[u8], piece: &[u8], from: usize) -> Reading
                 required: 0,
             };
         }
-        let at = marks_at + 2 * (first + letter);
-        met = met | marks_word(table[at], table[at + 1]);
+        met = met | cells::marks_of(table, place, letter);
         place = target;
         i += 1;
     }
@@ -92,8 +83,8 @@ pub(crate) fn judge_word(
     requires { ⌜ Taken (now table) × (wordFault (tableOf (now table) .letters) (now lead) (now looped) ≡ 0) × Blank (statesOf (now table)) (now begun) × (statesOf (now table) ≤ length (now prohibited)) × (statesOf (now table) ≤ length (now required)) ⌝ }
     ensures { λ r. ⌜ answerOf r ≡ rabinRun (tableOf (now (table .entry))) (now (lead .entry)) (now (looped .entry)) ⌝ }
 {
-    let n = table[0] as usize;
-    let entry = read_piece(table, lead, table[3] as usize);
+    let n = cells::states_of(table);
+    let entry = read_piece(table, lead, cells::start_of(table));
     if n <= entry.place {
         let read = entry.read as u32;
         return Judged::Stops(read);

@@ -17,7 +17,7 @@ use Rattle.rules.specs.Systems.{System}
 use Rattle.rules.specs.Tables.{tableOf}
 use Rattle.rules.proofs.Refusals.{TakenTable, taken-table, TakenWord, taken-word}
 use Rattle.tables.specs.Parts.{statesOf, systemIn}
-use Rattle.judge.specs.Passes.{Noted, Underway, prohibitedMarks, requiredMarks}
+use Rattle.judge.specs.Passes.{MissesAfter, Noted, Underway, prohibitedMarks, requiredMarks}
 use Rattle.judge.proofs.Pieces.{misses-within}
 use Rattle.judge.proofs.Passes.{misses-judged, underway-entry, underway-next, underway-noted, underway-state, underway-count, underway-early, underway-misses, round-earlier, round-judged, round-met}
 use Rattle.judge.proofs.Marks.{union-satisfies}
@@ -52,6 +52,9 @@ module _ (c : tie.At-loop Inv-loop μ-loop) where
   abbrev start : tie.Start Inv-loop μ-loop
   start = c .before .before .before .before .before .before .before .before .before .before .before .before
 
+  states-are : c .before .before .before .before .before .states-of .result ≡ statesOf (start .args .table .now)
+  states-are = c .before .before .before .before .before .states-of .ensures
+
   few : c .loop .count ≤ maxPiece + maxStates * maxPiece
   few =
       let most = underway-count (c .loop .inv .0) maxStates maxPiece (table start .sizes .most-states) (word start .most-loop) in
@@ -70,7 +73,7 @@ counted : (c : tie.After-struct-known4 Inv-loop μ-loop)
     → c .before .before .before .before .before .loop .count + c .before .before .before .read-piece2 .result .read ≤ maxPiece + maxStates * maxPiece + maxPiece
 counted c =
     let a = c .before .before .before .before .before in
-    let missed = misses-within _ _ _ _ (c .before .before .before .read-piece2 .ensures .0 .misses (c .before .if2 .taken)) in
+    let missed = misses-within _ _ _ _ (c .before .before .before .read-piece2 .ensures .0 .misses (rw (states-are a) at (c .before .if2 .taken))) in
     omega (arith, few a, missed, word (start a) .most-loop)
 
 -- the next pass begins where an earlier one began: the pairs that the passes between meet decide
@@ -94,35 +97,28 @@ decided c =
     let asked = met (requiredMarks t) (l .before .loop .required) (c .union-of2 .result) (fits l .1) (inv .2) (c .union-of2 .ensures) in
     round-judged (inv .0) (l .loop-test .left) (satisfies t) ∙ ap (λ (z : Bool). pick z accepts rejects) (union-satisfies (s .args .table .now) (s .pre .0) (recurring (system s) (t .start) (s .args .lead .now) (s .args .looped .now)) (c .before .before .before .union-of .result) (c .union-of2 .result) (c .union-of2 .ok) barred asked)
 
-shared-slice-read-n : tie.Need-shared-slice-read-n Inv-loop μ-loop
-shared-slice-read-n c = omega (arith, table (c .before .before .before .before .before .before .before))
-
-cast-n : tie.Need-cast-n Inv-loop μ-loop
-cast-n c = omega (arith, table (c .before .before .before .before .before .before .before))
-
-shared-slice-read-read-piece : tie.Need-shared-slice-read-read-piece Inv-loop μ-loop
-shared-slice-read-read-piece c = omega (arith, table (c .before .before .before .before .before .before .before .before))
-
-cast-read-piece : tie.Need-cast-read-piece Inv-loop μ-loop
-cast-read-piece c = omega (arith, table (c .before .before .before .before .before .before .before .before))
-
 read-piece-requires : tie.Need-read-piece-requires Inv-loop μ-loop
-read-piece-requires c κs = let s = c .before .before .before .before .before .before .before .before in (s .pre .0, word s .lead-letters, table s .start-state)
+read-piece-requires c κs = let s = c .before .before .before .before .before .before .before .before in (s .pre .0, word s .lead-letters, rw (c .start-of .ensures) (table s .start-state))
+
+-- the lead-in meets a missing transition
+missed-lead : (c : tie.Then1 Inv-loop μ-loop) → let s = c .before .before .before .before .before .before .before .before .before .before .before in MissesAfter (system s) (tableOf (s .args .table .now) .start) (s .args .lead .now) (c .before .before .read-piece .result .read)
+missed-lead c =
+    rw (c .before .before .before .start-of .ensures) at (c .before .before .read-piece .ensures .0 .misses (rw (c .before .before .before .before .states-of .ensures) at (c .if1 .taken)))
 
 cast-read : tie.Need-cast-read Inv-loop μ-loop
-cast-read c =
-    let missed = misses-within _ _ _ _ (c .before .before .before .read-piece .ensures .0 .misses (c .before .if1 .taken)) in omega (arith, missed, word (c .before .before .before .before .before .before .before .before .before .before .before .before) .most-lead)
+cast-read c = omega (arith, misses-within _ _ _ _ (missed-lead (c .before)), word (c .before .before .before .before .before .before .before .before .before .before .before .before) .most-lead)
 
 returns : tie.Need-returns Inv-loop μ-loop
 returns c =
     let s = c .before .before .before .before .before .before .before .before .before .before .before .before in
-    sym (misses-judged (system s) _ _ (s .args .looped .now) (satisfies (tableOf (s .args .table .now))) (table s .start-state) (word s .lead-letters) (word s .loop-letters) _ (c .before .before .before .read-piece .ensures .0 .misses (c .before .if1 .taken)))
+    sym (misses-judged (system s) _ _ (s .args .looped .now) (satisfies (tableOf (s .args .table .now))) (table s .start-state) (word s .lead-letters) (word s .loop-letters) _ (missed-lead (c .before)))
 
 loop-holds : tie.Need-loop-holds Inv-loop μ-loop
 loop-holds c =
     let s = c .before .before .before .before .before .before .before .before .before .before .before in
-    let there = c .if1 .left in
-    (underway-entry (system s) _ _ (s .args .looped .now) _ (s .args .begun .now) (c .before .before .read-piece .ensures .0 .leads there) there (s .pre .2), λ i h. absurd (not-suc-le-zero h), λ i h. absurd (not-suc-le-zero h), s .pre .3, s .pre .4, refl, refl, refl)
+    let there = rw (c .before .before .before .before .states-of .ensures) at (c .if1 .left) in
+    let path = rw (c .before .before .before .start-of .ensures) at (c .before .before .read-piece .ensures .0 .leads there) in
+    (underway-entry (system s) _ _ (s .args .looped .now) _ (s .args .begun .now) path there (s .pre .2), λ i h. absurd (not-suc-le-zero h), λ i h. absurd (not-suc-le-zero h), s .pre .3, s .pre .4, refl, refl, refl)
 
 read-piece-requires-2 : tie.Need-read-piece-requires-2 Inv-loop μ-loop
 read-piece-requires-2 c κs = let s = start (c .before) in (s .pre .0, word s .loop-letters, state c)
@@ -146,7 +142,7 @@ returns-2 : tie.Need-returns-2 Inv-loop μ-loop
 returns-2 c =
     let a = c .before .before .before .before .before in
     let s = start a in
-    sym (underway-misses (a .loop .inv .0) (satisfies (tableOf (s .args .table .now))) (table s .start-state) (word s .lead-letters) (word s .loop-letters) _ (c .before .before .before .read-piece2 .ensures .0 .misses (c .before .if2 .taken)))
+    sym (underway-misses (a .loop .inv .0) (satisfies (tableOf (s .args .table .now))) (table s .start-state) (word s .lead-letters) (word s .loop-letters) _ (c .before .before .before .read-piece2 .ensures .0 .misses (rw (states-are a) at (c .before .if2 .taken))))
 
 slice-write-prohibited : tie.Need-slice-write-prohibited Inv-loop μ-loop
 slice-write-prohibited c = omega (arith, early (c .before .before .before), c .before .before .before .before .loop .inv .3)
@@ -170,20 +166,22 @@ add-count : tie.Need-add-count Inv-loop μ-loop
 add-count c = omega (arith, few (c .before .before .before .before), word (start (c .before .before .before .before)) .most-loop)
 
 mul-first : tie.Need-mul-first Inv-loop μ-loop
-mul-first c = omega (arith, c .if2 .left, table (start (c .before .before .before .before)))
+mul-first c = let a = c .before .before .before .before in omega (arith, states-are a, c .if2 .left, table (start a))
 
 slice-read-first : tie.Need-slice-read-first Inv-loop μ-loop
-slice-read-first c = omega (arith, c .before .if2 .left, length-set (c .before .before .before .before .before .loop .begun) (c .before .before .before .before .before .loop .place) (c .before .before .before .before .before .loop .pass + 1), c .before .before .before .before .before .loop .inv .0 .room)
+slice-read-first c =
+    let a = c .before .before .before .before .before in
+    omega (arith, states-are a, c .before .if2 .left, length-set (a .loop .begun) (a .loop .place) (a .loop .pass + 1), a .loop .inv .0 .room)
 
 loop-less : tie.Need-loop-less Inv-loop μ-loop
-loop-less c = omega (arith, early (c .before .before .before .before))
+loop-less c = let t = c .before .before .before .before in omega (arith, states-are (t .before), early t)
 
 loop-again : tie.Need-loop-again Inv-loop μ-loop
 loop-again c =
     let turn = c .before .before .before .before in
     let inv = turn .before .loop .inv in
     let read = c .before .before .before .read-piece2 .ensures in
-    let on = c .before .if2 .left in
+    let on = rw (states-are (turn .before)) at (c .before .if2 .left) in
     let noted = underway-noted (inv .0) (turn .loop-test .taken) bit in
     (underway-next (inv .0) (turn .loop-test .taken) _ _ (read .0 .leads on) refl, noted _ _ (turn .before .loop .prohibited) (inv .3) (read .1 on) (inv .1), noted _ _ (turn .before .loop .required) (inv .4) (read .2 on) (inv .2), simp length-set (inv .3), simp length-set (inv .4), simp length-set (inv .5), simp length-set (inv .6), simp length-set (inv .7))
 
@@ -238,7 +236,7 @@ returns-4 c = sym (decided (c .before) ∙ rw (ne-eqb _ _ (c .if3 .left)))
 pub judge-word-spec : {M : Type 1} → statement M
 judge-word-spec =
     tie.close
-    (tie.spec Inv-loop μ-loop shared-slice-read-n cast-n shared-slice-read-read-piece cast-read-piece read-piece-requires cast-read returns loop-holds
+    (tie.spec Inv-loop μ-loop (λ c κs. c .before .before .before .before .before .before .pre .0) (λ c κs. c .before .before .before .before .before .before .before .pre .0) read-piece-requires cast-read returns loop-holds
     read-piece-requires-2 add-read cast-read-2 same-length same-length-2 same-length-3 returns-2 slice-write-prohibited slice-write-required add-pass
     cast-begun mul-begun slice-write-begun add-count mul-first slice-read-first loop-less loop-again cast-from sub-from sub-union-of
     part-union-of-start part-union-of-end (λ c κs. tt) sub-union-of-2 part-union-of-start-2 part-union-of-end-2 (λ c κs. tt) same-length-4
