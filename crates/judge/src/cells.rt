@@ -24,7 +24,7 @@ pub(crate) fn start_of(table: &[u8]) -> usize
 }
 
 // Where a state goes by a letter, no state where the transition is missing. Behind the state come one product and one read: the targets are cut
-// off the table first, once a loop, and a letter's column of them while the state is still awaited.
+// off the table first, once per loop, and a letter's column of them while the state is still awaited.
 pub(crate) fn target_of(table: &[u8], state: usize, letter: usize) -> usize
     requires { ⌜ Taken (now table) × (state < statesOf (now table)) × (letter < tableOf (now table) .letters) ⌝ }
     ensures { λ r. ⌜ r ≡ targetOf (tableOf (now (table .entry))) state letter ⌝ }
