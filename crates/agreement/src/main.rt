@@ -4,7 +4,7 @@
 // document.
 use judge::Judged;
 use judge::judge_parity;
-use judge::judge_rabin;
+use judge_rabin::judge_rabin;
 use libc::STDOUT_FILENO;
 use tables::letters_of;
 use translate::translate_table;

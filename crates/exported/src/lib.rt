@@ -1,12 +1,12 @@
 // The public calls on tables and words for C and Rust: a slice goes out as a pointer and a length, an answer as two numbers.
-// It rests on `components`, `tables`, `translate`, `judge` and `listing_text`, passes each call on as it is, and has no work of its own but to number an answer and
+// It rests on `components`, `tables`, `translate`, `judge`, `judge_rabin` and `listing_text`, passes each call on as it is, and has no work of its own but to number an answer and
 // to say where a part lies. Each call keeps the promise of the one that it passes on to, for all bytes, arrays, sizes and places.
 use components::find_reached;
 use components::path_to;
 use judge::Judged;
 use judge::judge_parity;
-use judge::judge_rabin;
 use judge::rest_of;
+use judge_rabin::judge_rabin;
 use listing_text::list_table;
 use tables::check_table;
 use tables::find_components;

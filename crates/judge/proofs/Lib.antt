@@ -4,4 +4,3 @@ pub mod Checks
 pub mod Sums
 pub mod Pieces
 pub mod Passes
-pub mod Marks

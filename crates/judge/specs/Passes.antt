@@ -4,7 +4,6 @@
 --     MissesAfter s p w n             reading w from p meets a missing transition after n letters
 --     PieceSays s p w q n             reading w from p leads to q, or, where q is no state, meets a missing transition after n letters
 --     MetOn s t g p w q v             where q is a state, v sums up what reading w from p meets
---     prohibitedMarks, requiredMarks  the marks of a transition of a Rabin table, bit i for pair i + 1
 --     Blank n begun                   no pass is known to have begun at any of n places
 --     Begun s l e r q begun           r passes have been read from e on and led to q; begun has, for each place where one of them
 --                                     began, one more than its number, and 0 for the other places
@@ -19,7 +18,6 @@ use lib.ListN.{length, getD}
 use Rattle.rules.specs.Basics.{any}
 use Rattle.rules.specs.Systems.{System, Path}
 use Rattle.rules.specs.Runs.{Taken, passFrom, turn, ReadsOn, Stop}
-use Rattle.rules.specs.Tables.{Table, prohibitedByte, requiredByte}
 
 abbrev pub Met : {A : Type 0} → (ℕ → ℕ → Bool) → (A → ℕ) → List A → ℕ → Type 0
 Met t g xs v = (i : ℕ) → t i v ≡ any (λ x. t i (g x)) xs
@@ -34,12 +32,6 @@ pub record PieceSays (s : System) (p : ℕ) (w : List ℕ) (q n : ℕ) : Type 0 
 
 abbrev pub MetOn : System → (ℕ → ℕ → Bool) → (Taken → ℕ) → ℕ → List ℕ → ℕ → ℕ → Type 0
 MetOn s t g p w q v = q < s .states → Met t g (passFrom s p w) v
-
-abbrev pub prohibitedMarks : Table → Taken → ℕ
-prohibitedMarks t x = prohibitedByte t (x .from) (x .by)
-
-abbrev pub requiredMarks : Table → Taken → ℕ
-requiredMarks t x = requiredByte t (x .from) (x .by)
 
 pub record Blank (n : ℕ) (begun : List ℕ) : Type 0 where
   pub enough : n ≤ length begun

@@ -1,21 +1,16 @@
-// Judges looped words on Rabin tables and on parity tables, and hands back the rest of a piece of a word.
-// It rests on `tables`, which checks a Rabin table. `judge_rabin`, `judge_parity` and `rest_of` keep the promises `RabinSays`,
-// `ParitySays` and `RestSays` of the rules, for all bytes, arrays, sizes and places.
+// Looped words: their refusals, the rest of a piece, and the judge of parity tables.
+// It rests on `rules` alone. `judge_parity` and `rest_of` keep the promises `ParitySays` and `RestSays` of the rules, for all arrays, sizes and
+// places; `words` has the refusals of a word, for any judge.
 use crate::sizes::FEW_ROWS;
 use crate::sizes::SOME_ROWS;
-use rules::limit::MAX_STATES;
-use tables::check_table;
-use tables::letters_of;
 
-mod cells;
 mod parity;
-mod rabin;
 mod sizes;
-mod words;
+pub mod words;
 
 ghost use mathlib.Core.Path.{_≡_};
 ghost use lib.ListN.{length};
-ghost use Rattle.rules.specs.Says.{RabinSays, ParitySays, RestSays};
+ghost use Rattle.rules.specs.Says.{ParitySays, RestSays};
 ghost use Rattle.judge.specs.Judgements.{answerOf};
 ghost use Rattle.judge.specs.Parts.{restAt};
 
@@ -25,29 +20,6 @@ pub enum Judged {
     Rejects,
     Stops(u32),
     Refused(u8),
-}
-
-// The answer of a Rabin table.
-pub fn judge_rabin(table: &[u8], lead: &[u8], looped: &[u8]) -> Judged
-    ensures { λ r. ⌜ RabinSays (now (table .entry)) (now (lead .entry)) (now (looped .entry)) (answerOf r) ⌝ }
-{
-    let table_fault = check_table(table);
-    let word_fault = words::word_fault(letters_of(table), lead, looped);
-    let refused = words::first_fault(table_fault, word_fault);
-    if refused != 0 {
-        return Judged::Refused(refused);
-    }
-    let mut begun = [0; MAX_STATES as usize];
-    let mut prohibited = [0; MAX_STATES as usize];
-    let mut required = [0; MAX_STATES as usize];
-    rabin::judge_word(
-        table,
-        lead,
-        looped,
-        &mut begun,
-        &mut prohibited,
-        &mut required,
-    )
 }
 
 // The answer of a parity table, from anyone's sizes and arrays.

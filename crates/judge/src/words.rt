@@ -21,7 +21,7 @@ fn has_stray(m: u8, piece: &[u8]) -> bool
 }
 
 // The refusal of a word over m letters, 10 or 9, or 0 where the word is taken. A piece that is too long is not looked into.
-pub(crate) fn word_fault(m: u8, lead: &[u8], looped: &[u8]) -> u8
+pub fn word_fault(m: u8, lead: &[u8], looped: &[u8]) -> u8
     ensures { λ r. ⌜ r ≡ wordFault m (now (lead .entry)) (now (looped .entry)) ⌝ }
 {
     if (looped.len() == 0) | ((MAX_PIECE < lead.len()) | (MAX_PIECE < looped.len())) {
@@ -43,7 +43,7 @@ pub(crate) fn byte_of(letters: usize) -> u8
 }
 
 // A table's refusal comes before the word's.
-pub(crate) fn first_fault(table: u8, word: u8) -> u8
+pub fn first_fault(table: u8, word: u8) -> u8
     ensures { λ r. ⌜ r ≡ firstOf table word ⌝ }
 {
     if table != 0 { table } else { word }

@@ -2,7 +2,7 @@
 --     getD-any                         below the length the default is not looked at
 --     tabulate-length, tabulate-at, tabulate-last, tabulate-same     a tabulated list
 --     cell-before, cell-same, cell-split     a place is the cell of one row and one letter only
---     row-ends                         the cells of a row are among those of the rows
+--     cell-within, row-within, row-ends     a cell, the cells before a row and those of a row are among the cells of all rows
 --     joined-length, joined-at         lists of one length, joined: the cell of row i and letter a is number i · m + a
 --     cells-length, cells-at           one number for each letter of each row, joined
 --     tabulate-none, joined-none       where nothing passes a test, in each place or in each list
@@ -11,7 +11,7 @@ use mathlib.Core.Path.{_≡_, refl, sym, ap, _∙_}
 use mathlib.Core.Bool.{Bool, false}
 use mathlib.Core.List.{List, [], _∷_, _++_, append-assoc, map}
 use Prim.Native.Nat.{ℕ, zero, suc, _+_, _*_, _/_, _%_, _≤_, _<_}
-use native.Mathlib.Nat.{suc-mul, zero-mul, mul-le-mul, mul-le-mul-right, le-refl, div-add-mod', div-lt-iff-lt-mul, mod-lt}
+use native.Mathlib.Nat.{suc-mul, zero-mul, mul-le-mul, mul-le-mul-right, le-refl, le-of-lt, div-add-mod', div-lt-iff-lt-mul, mod-lt}
 use native.Mathlib.Omega.{arith}
 use lib.Dec.{ltb}
 use lib.ListN.{length, getD, length-append, List·getD-append}
@@ -26,6 +26,12 @@ pub getD-any : (xs : List ℕ) (i d e : ℕ) → i < length xs → getD xs i d �
 getD-any [] i d e l = absurd (omega arith)
 getD-any (x ∷ xs) zero d e l = refl
 getD-any (x ∷ xs) (suc i) d e l = getD-any xs i d e (omega arith)
+
+pub cell-within : (n m q a : ℕ) → q < n → a < m → cell m q a < n * m
+cell-within n m q a l r = let h : suc q * m ≤ n * m = mul-le-mul l (le-refl m) in omega (arith, suc-mul q m)
+
+pub row-within : (n m q : ℕ) → q < n → q * m ≤ n * m
+row-within n m q l = mul-le-mul (le-of-lt l) (le-refl m)
 
 pub row-ends : (n m i : ℕ) → i < n → cell m i m ≤ n * m
 row-ends n m i l = let rows : suc i * m ≤ n * m = mul-le-mul-right m l in omega (arith, suc-mul i m)

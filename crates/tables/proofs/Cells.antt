@@ -1,5 +1,4 @@
 -- Where the cells of a table that is taken stand among its bytes.
---     cell-within, row-within       a cell's number is below the number of cells; the cells before a row
 --     targetAt, target-within, target-byte         the place of the byte that says where q goes by a, and that byte
 --     prohibitedAt, prohibited-byte     the place of the byte of that transition's prohibited marks, and that byte
 --     requiredAt, required-byte     the same of its required marks
@@ -9,7 +8,6 @@ use mathlib.Core.Path.{_≡_, _∙_}
 use mathlib.Core.Bool.{false, not, _&&_}
 use mathlib.Core.List.{List, [], _∷_}
 use Prim.Native.Nat.{ℕ, zero, suc, _+_, _*_, _^_, _<_, _≤_}
-use native.Mathlib.Nat.{mul-le-mul, le-refl, le-of-lt, suc-mul}
 use native.Mathlib.Omega.{arith}
 use lib.Dec.{eqb, ltb}
 use lib.ListN.{length, getD, drop, length-take, length-drop, List·getD-eq-default}
@@ -19,16 +17,10 @@ use borrow.Author.Tests.{ltb-true, not-false}
 use Rattle.rules.specs.Limits.{headerSize, noState}
 use Rattle.rules.specs.Systems.{cell}
 use Rattle.rules.specs.Tables.{Table, tableOf, targetOf, prohibitedByte, requiredByte, markFault, marksFault}
-use Rattle.rules.proofs.Arrays.{getD-any}
+use Rattle.rules.proofs.Arrays.{getD-any, cell-within}
 use Rattle.rules.proofs.Bools.{or-none, and-parts}
 use Rattle.rules.proofs.Refusals.{taken-table}
 use Rattle.tables.specs.Parts.{Taken}
-
-pub cell-within : (n m q a : ℕ) → q < n → a < m → q * m + a < n * m
-cell-within n m q a l r = let h : suc q * m ≤ n * m = mul-le-mul l (le-refl m) in omega (arith, suc-mul q m)
-
-pub row-within : (n m q : ℕ) → q < n → q * m ≤ n * m
-row-within n m q l = mul-le-mul (le-of-lt l) (le-refl m)
 
 -- marks that are taken have no bit above pair k; past the last cell there are none
 marks-below : (k : ℕ) (ts ms : List ℕ) (c : ℕ) → marksFault k ts ms ≡ false → length ms ≤ 2 * length ts

@@ -22,7 +22,7 @@ use Rattle.rules.specs.Limits.{headerSize, noState, noRow}
 use Rattle.rules.specs.Says.{over}
 use Rattle.rules.specs.Systems.{System, componentOf, metWithin, cell}
 use Rattle.rules.specs.Tables.{Table, tableOf, systemOf, targetOf, prohibitedByte, requiredByte, requires, counts}
-use Rattle.rules.proofs.Arrays.{getD-any}
+use Rattle.rules.proofs.Arrays.{getD-any, cell-within}
 use Rattle.rules.proofs.Bits.{bit-over}
 use Rattle.rules.proofs.Bools.{by, clash}
 use Rattle.rules.proofs.Reach.{met-view}
@@ -31,7 +31,7 @@ use Rattle.rules.proofs.Refusals.{TakenTable, taken-table}
 use Rattle.components.proofs.Reaching.{SameGo, same-component, same-met}
 use Rattle.tables.specs.Layouts.{wideTarget, targetIn, marksIn, TargetsLaid, MarksLaid, targetCells, markCells, IsTable, countedPairs, requiredIn, pairBits, countedIn}
 use Rattle.tables.specs.Parts.{Taken, Listed}
-use Rattle.tables.proofs.Cells.{cell-within, target-count, marks-small}
+use Rattle.tables.proofs.Cells.{target-count, marks-small}
 
 -- ---- sets of pairs with more bits than there are pairs
 cut-bits : (b : ℕ → Bool) (k d : ℕ) → ((i : ℕ) → k ≤ i → b i ≡ false) → asBits (k + d) b ≡ asBits k b

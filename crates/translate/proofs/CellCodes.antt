@@ -24,13 +24,12 @@ use Rattle.rules.specs.Judges.{paritySystem}
 use Rattle.rules.specs.Limits.{maxStates, maxLetters, maxPairs, noState, noRow}
 use Rattle.rules.specs.Systems.{isInside, componentOf, cell}
 use Rattle.rules.specs.Tables.{Table, systemOf, targetOf, prohibitedByte, requiredByte, prohibits, requires, counts, rising}
-use Rattle.rules.proofs.Arrays.{cell-same}
+use Rattle.rules.proofs.Arrays.{cell-same, cell-within}
 use Rattle.rules.proofs.Bits.{bit-and, bit-over, as-bits-below, as-bits-at, bits-are}
 use Rattle.rules.proofs.Bools.{by}
 use Rattle.records.specs.Words.{limit, isMarked}
 use Rattle.tables.specs.Layouts.{wideTarget, TargetsLaid, MarksLaid, IsTable, countedPairs, countedIn, surveyFits, SurveySays}
 use Rattle.tables.specs.Parts.{Listed}
-use Rattle.tables.proofs.Cells.{cell-within}
 use Rattle.tables.proofs.Laying.{laid-homes-at, laid-counted}
 use Rattle.tables.proofs.Surveying.{home-inside, listed}
 use Rattle.explore.specs.Cells.{span}

@@ -12,9 +12,8 @@ use Rattle.rules.specs.Limits.{noRow}
 use Rattle.rules.specs.Judges.{paritySystem, priorityAt}
 use Rattle.rules.specs.Runs.{passFrom}
 use Rattle.rules.specs.Systems.{System, Path, here}
-use Rattle.rules.proofs.Arrays.{getD-any}
+use Rattle.rules.proofs.Arrays.{getD-any, cell-within}
 use Rattle.rules.proofs.Refusals.{TakenParity, taken-parity}
-use Rattle.tables.proofs.Cells.{cell-within}
 use Rattle.judge.specs.Passes.{Met}
 use Rattle.judge.proofs.Sums.{largest-joins}
 use Rattle.judge.proofs.Pieces.{letter-below, read-more, read-misses, met-letter, column-long, column-at}

@@ -6,10 +6,9 @@ use native.Mathlib.Nat.{le-antisymm}
 use native.Mathlib.Omega.{arith}
 use Rattle.rules.specs.Judges.{paritySystem}
 use Rattle.rules.specs.Limits.{noRow}
-use Rattle.rules.proofs.Arrays.{getD-any}
+use Rattle.rules.proofs.Arrays.{getD-any, cell-within, row-within}
 use Rattle.rules.proofs.Bits.{bit-none}
 use Rattle.tables.specs.Layouts.{requiredIn}
-use Rattle.tables.proofs.Cells.{cell-within, row-within}
 use Rattle.tables.proofs.Surveying.{home-inside, MetBelow, met-more}
 use Rattle.tables.proofs.survey.met_pairs.Statement.{statement}
 use Rattle.tables.proofs.survey.met_pairs.Tie as tie

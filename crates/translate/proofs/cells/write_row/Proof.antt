@@ -6,7 +6,7 @@ use native.Mathlib.Nat.{le-antisymm, suc-mul}
 use native.Mathlib.Omega.{arith}
 use lib.ListN.{length, length-set}
 use Rattle.rules.specs.Systems.{cell}
-use Rattle.tables.proofs.Cells.{cell-within, row-within}
+use Rattle.rules.proofs.Arrays.{cell-within, row-within}
 use Rattle.translate.specs.Cells.{codeIn, Written}
 use Rattle.translate.proofs.CellCodes.{written-more}
 use Rattle.translate.proofs.cells.write_row.Statement.{statement}

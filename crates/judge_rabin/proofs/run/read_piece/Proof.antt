@@ -1,4 +1,4 @@
--- `judge::rabin::read_piece` meets its contract. The invariant: the first i letters lead to the place, and the marks met on the way are kept.
+-- `judge_rabin::run::read_piece` meets its contract. The invariant: the first i letters lead to the place, and the marks met on the way are kept.
 use mathlib.Core.Path.{_≡_}
 use mathlib.Core.List.{List}
 use Prim.Native.Nat.{ℕ, _+_, _-_, _/_, _%_, _^_, _<_, _≤_}
@@ -14,11 +14,12 @@ use Rattle.rules.proofs.Bits.{bit-none}
 use Rattle.rules.proofs.Refusals.{taken-table}
 use Rattle.rules.proofs.Runs.{path-below}
 use Rattle.tables.specs.Parts.{systemIn}
-use Rattle.judge.specs.Passes.{Met, MissesAfter, prohibitedMarks, requiredMarks}
+use Rattle.judge.specs.Passes.{Met, MissesAfter}
+use Rattle.judge_rabin.specs.Marks.{prohibitedMarks, requiredMarks}
 use Rattle.judge.proofs.Sums.{union-joins}
 use Rattle.judge.proofs.Pieces.{letter-below, read-more, read-misses, met-letter}
-use Rattle.judge.proofs.rabin.read_piece.Statement.{statement}
-use Rattle.judge.proofs.rabin.read_piece.Tie as tie
+use Rattle.judge_rabin.proofs.run.read_piece.Statement.{statement}
+use Rattle.judge_rabin.proofs.run.read_piece.Tie as tie
 
 abbrev Inv-loop : tie.InvT-loop
 Inv-loop table piece from n place₀ met₀ i₀ place met i =

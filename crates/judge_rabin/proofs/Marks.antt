@@ -21,8 +21,10 @@ use Rattle.rules.proofs.Bools.{by, clash, and-parts}
 use Rattle.rules.proofs.Refusals.{TakenTable, taken-table}
 use Rattle.rules.proofs.Sets.{any-fails, apart, below-find, below-intro}
 use Rattle.tables.specs.Parts.{Taken}
-use Rattle.tables.proofs.Cells.{cell-within, marks-small}
-use Rattle.judge.specs.Passes.{Met, prohibitedMarks, requiredMarks}
+use Rattle.rules.proofs.Arrays.{cell-within}
+use Rattle.tables.proofs.Cells.{marks-small}
+use Rattle.judge.specs.Passes.{Met}
+use Rattle.judge_rabin.specs.Marks.{prohibitedMarks, requiredMarks}
 
 pub cell-placed : (bs : List ℕ) (q a : ℕ) → Taken bs × (q < tableOf bs .states) × (a < tableOf bs .letters)
     → TakenTable bs × (cell (tableOf bs .letters) q a < tableOf bs .states * tableOf bs .letters)

@@ -1,9 +1,9 @@
--- `judge::cells::start_of` meets its contract: a table that is taken has the byte.
+-- `judge_rabin::cells::start_of` meets its contract: a table that is taken has the byte.
 use borrow.Author.Needs.{needs}
 use native.Mathlib.Omega.{arith}
 use Rattle.rules.proofs.Refusals.{taken-table}
-use Rattle.judge.proofs.cells.start_of.Statement.{statement}
-use Rattle.judge.proofs.cells.start_of.Tie as tie
+use Rattle.judge_rabin.proofs.cells.start_of.Statement.{statement}
+use Rattle.judge_rabin.proofs.cells.start_of.Tie as tie
 
 pub start-of-spec : {M : Type 1} → statement M
 start-of-spec =

@@ -1,4 +1,4 @@
--- `judge::cells::marks_of` meets its contract: behind the targets stand two bytes for each cell.
+-- `judge_rabin::cells::marks_of` meets its contract: behind the targets stand two bytes for each cell.
 use mathlib.Core.Path.{_≡_}
 use Prim.Native.Nat.{_+_, _*_, _<_}
 use native.Mathlib.Omega.{arith}
@@ -9,9 +9,9 @@ use Rattle.rules.specs.Tables.{tableOf}
 use Rattle.rules.proofs.Refusals.{TakenTable}
 use Rattle.tables.specs.Parts.{statesOf}
 use Rattle.tables.proofs.Cells.{prohibitedAt, prohibited-byte, requiredAt, required-byte}
-use Rattle.judge.proofs.Marks.{cell-placed}
-use Rattle.judge.proofs.cells.marks_of.Statement.{statement}
-use Rattle.judge.proofs.cells.marks_of.Tie as tie
+use Rattle.judge_rabin.proofs.Marks.{cell-placed}
+use Rattle.judge_rabin.proofs.cells.marks_of.Statement.{statement}
+use Rattle.judge_rabin.proofs.cells.marks_of.Tie as tie
 
 -- the table, and the cell in it
 placed : (s : tie.Start) → let b = s .args .table .now in TakenTable b × (cell (tableOf b .letters) (s .args .state) (s .args .letter) < statesOf b * tableOf b .letters)

@@ -1,7 +1,7 @@
 // The run over a Rabin table: the word is read pass by pass, until a pass begins where an earlier one began. Of each pass only the
 // pairs prohibited and the pairs required are kept, so the memory does not grow with the loop, and a pass is read once.
-use crate::Judged;
 use crate::cells;
+use judge::Judged;
 ghost use mathlib.Core.Path.{_≡_};
 ghost use mathlib.Core.Bool.{false};
 ghost use Prim.Native.Nat.{_<_, _≤_};
@@ -11,8 +11,9 @@ ghost use Rattle.rules.specs.Judges.{wordFault, rabinRun};
 ghost use Rattle.rules.specs.Runs.{strayLetter};
 ghost use Rattle.rules.specs.Tables.{tableOf};
 ghost use Rattle.tables.specs.Parts.{Taken, statesOf, systemIn};
 ghost use Rattle.judge.specs.Judgements.{answerOf};
-ghost use Rattle.judge.specs.Passes.{Met, MetOn, PieceSays, Blank, prohibitedMarks, requiredMarks};
+ghost use Rattle.judge.specs.Passes.{Met, MetOn, PieceSays, Blank};
+ghost use Rattle.judge_rabin.specs.Marks.{prohibitedMarks, requiredMarks};
 
 // Where reading a piece led, or no state where it met a missing transition; the letters read; of a piece read to its end the pairs met
 // as prohibited and as required.

@@ -1,14 +1,14 @@
--- `judge::rabin::union_of` meets its contract. The invariant: the union of the first i sets is found.
+-- `judge_rabin::run::union_of` meets its contract. The invariant: the union of the first i sets is found.
 use Prim.Native.Nat.{_-_, _≤_}
 use native.Mathlib.Omega.{arith}
 use lib.Bits.{bitOr}
 use lib.ListN.{length, take}
 use Rattle.rules.specs.Basics.{bit}
 use Rattle.rules.proofs.Bits.{bit-none}
 use Rattle.judge.specs.Passes.{Met}
 use Rattle.judge.proofs.Sums.{union-joins, met-rest, met-end}
-use Rattle.judge.proofs.rabin.union_of.Statement.{statement}
-use Rattle.judge.proofs.rabin.union_of.Tie as tie
+use Rattle.judge_rabin.proofs.run.union_of.Statement.{statement}
+use Rattle.judge_rabin.proofs.run.union_of.Tie as tie
 
 abbrev Inv-loop : tie.InvT-loop
 Inv-loop sets union₀ i₀ union i = (i ≤ length sets) × Met bit (λ x. x) (take i sets) union

@@ -1,4 +1,4 @@
--- `judge::cells::target_of` meets its contract: in the letter's column the state's row has the target.
+-- `judge_rabin::cells::target_of` meets its contract: in the letter's column the state's row has the target.
 use mathlib.Core.Path.{_≡_, sym, _∙_}
 use Prim.Native.Nat.{_+_, _-_, _*_, _<_}
 use native.Mathlib.Omega.{arith}
@@ -10,10 +10,10 @@ use Rattle.rules.specs.Tables.{tableOf}
 use Rattle.rules.proofs.Refusals.{TakenTable}
 use Rattle.tables.specs.Parts.{statesOf}
 use Rattle.tables.proofs.Cells.{targetAt, target-byte}
-use Rattle.judge.proofs.Marks.{cell-placed}
+use Rattle.judge_rabin.proofs.Marks.{cell-placed}
 use Rattle.judge.proofs.Pieces.{column-long, column-at}
-use Rattle.judge.proofs.cells.target_of.Statement.{statement}
-use Rattle.judge.proofs.cells.target_of.Tie as tie
+use Rattle.judge_rabin.proofs.cells.target_of.Statement.{statement}
+use Rattle.judge_rabin.proofs.cells.target_of.Tie as tie
 
 -- the table, and the cell in it
 placed : (s : tie.Start) → let b = s .args .table .now in TakenTable b × (cell (tableOf b .letters) (s .args .state) (s .args .letter) < statesOf b * tableOf b .letters)

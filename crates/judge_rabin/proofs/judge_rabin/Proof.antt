@@ -1,4 +1,4 @@
--- `judge::judge_rabin` meets its contract: a refusal of the table, a refusal of the word, or the run's answer.
+-- `judge_rabin::judge_rabin` meets its contract: a refusal of the table, a refusal of the word, or the run's answer.
 use mathlib.Core.Path.{_≡_, sym, ap, _∙_}
 use Prim.Native.Nat.{ℕ}
 use borrow.Author.Needs.{needs}
@@ -9,9 +9,9 @@ use Rattle.rules.specs.Tables.{tableOf, tableFault}
 use Rattle.rules.proofs.Filling.{zeros-at}
 use Rattle.rules.proofs.Refusals.{taken-table, first-zero}
 use Rattle.tables.specs.Parts.{Taken}
 use Rattle.judge.proofs.Checks.{first-same, refused-given}
-use Rattle.judge.proofs.judge_rabin.Statement.{statement}
-use Rattle.judge.proofs.judge_rabin.Tie as tie
+use Rattle.judge_rabin.proofs.judge_rabin.Statement.{statement}
+use Rattle.judge_rabin.proofs.judge_rabin.Tie as tie
 
 -- the refusal, of the table or of the word
 module _ (c : tie.After-first-fault) where

@@ -1,4 +1,4 @@
--- `judge::rabin::judge_word` meets its contract. The invariant: the word is underway, and of each pass the pairs that it meets are noted.
+-- `judge_rabin::run::judge_word` meets its contract. The invariant: the word is underway, and of each pass the pairs that it meets are noted.
 use mathlib.Core.Path.{_≡_, refl, sym, ap, _∙_}
 use mathlib.Core.Bool.{Bool, not}
 use Prim.Native.Nat.{_-_, _+_, _*_, _≤_, _<_}
@@ -17,12 +17,13 @@ use Rattle.rules.specs.Systems.{System}
 use Rattle.rules.specs.Tables.{tableOf}
 use Rattle.rules.proofs.Refusals.{TakenTable, taken-table, TakenWord, taken-word}
 use Rattle.tables.specs.Parts.{statesOf, systemIn}
-use Rattle.judge.specs.Passes.{MissesAfter, Noted, Underway, prohibitedMarks, requiredMarks}
+use Rattle.judge.specs.Passes.{MissesAfter, Noted, Underway}
+use Rattle.judge_rabin.specs.Marks.{prohibitedMarks, requiredMarks}
 use Rattle.judge.proofs.Pieces.{misses-within}
 use Rattle.judge.proofs.Passes.{misses-judged, underway-entry, underway-next, underway-noted, underway-state, underway-count, underway-early, underway-misses, round-earlier, round-judged, round-met}
-use Rattle.judge.proofs.Marks.{union-satisfies}
-use Rattle.judge.proofs.rabin.judge_word.Statement.{statement}
-use Rattle.judge.proofs.rabin.judge_word.Tie as tie
+use Rattle.judge_rabin.proofs.Marks.{union-satisfies}
+use Rattle.judge_rabin.proofs.run.judge_word.Statement.{statement}
+use Rattle.judge_rabin.proofs.run.judge_word.Tie as tie
 
 abbrev Inv-loop : tie.InvT-loop
 Inv-loop table lead looped begun₀ prohibited₀ required₀ n place₀ count₀ pass₀ first₀ begun prohibited required place count pass first =

@@ -1,0 +1,2 @@
+-- What the contracts cite beyond the rules and the words.
+pub mod Marks
