@@ -1,18 +1,20 @@
 -- What holds where sizes and arrays fit.
 --     components-room    a search for components has room
+--     components-tested, reach-tested     what the code tests
 --     reach-room         a search from a state has room, and begins at a state
-use mathlib.Core.Path.{_≡_}
-use mathlib.Core.Bool.{true, _&&_}
+use mathlib.Core.Path.{_≡_, refl}
+use mathlib.Core.Bool.{Bool, true, _&&_}
 use mathlib.Core.List.{List}
-use Prim.Native.Nat.{ℕ, _*_, _<_, _≤_}
+use Prim.Native.Nat.{ℕ, _*_, _/_, _<_, _≤_}
+use native.Mathlib.Omega.{arith}
 use lib.Dec.{ltb, leb}
 use lib.ListN.{length}
-use borrow.Author.Tests.{ltb-true, leb-true}
+use borrow.Author.Tests.{ltb-true, leb-true, le-leb}
 use Rattle.rules.specs.Judges.{paritySystem}
-use Rattle.rules.proofs.Bools.{and-parts}
+use Rattle.rules.proofs.Bools.{and-parts, bool-ext}
 use Rattle.components.specs.Searching.{doneNumber, Room}
 use Rattle.components.specs.Reaches.{ReachRoom}
-use Rattle.components.specs.Calls.{cellsFit, workFits, componentsFit, reachFits}
+use Rattle.components.specs.Calls.{cellsFit, componentsFit, reachFits}
 
 cells-fit : (n m t : ℕ) → cellsFit n m t ≡ true → (n < doneNumber) × (m < doneNumber) × (n * m ≤ t)
 cells-fit n m t h =
@@ -20,32 +22,45 @@ cells-fit n m t h =
     let b = and-parts (ltb m doneNumber) (leb (n * m) t) (a .1) in
     (ltb-true n doneNumber (a .0), ltb-true m doneNumber (b .0), leb-true (n * m) t (b .1))
 
-work-fits : (n a b c d e : ℕ) → workFits n a b c d e ≡ true → (n ≤ a) × (n ≤ b) × (n ≤ c) × (n ≤ d) × (n ≤ e)
-work-fits n a b c d e h =
-    let p = and-parts (leb n a) (leb n b && (leb n c && (leb n d && leb n e))) h in
-    let q = and-parts (leb n b) (leb n c && (leb n d && leb n e)) (p .1) in
-    let r = and-parts (leb n c) (leb n d && leb n e) (q .1) in
-    let s = and-parts (leb n d) (leb n e) (r .1) in
-    (leb-true n a (p .0), leb-true n b (q .0), leb-true n c (r .0), leb-true n d (s .0), leb-true n e (s .1))
-
-pub components-room : (n m : ℕ) (targets numbers stack starts waiting next out : List ℕ)
-    → componentsFit n m targets numbers stack starts waiting next out ≡ true
-    → Room (paritySystem n m targets) targets numbers stack starts waiting next out × (m < doneNumber)
-components-room n m targets numbers stack starts waiting next out h =
-    let work = workFits n (length numbers) (length stack) (length starts) (length waiting) (length next) in
-    let a = and-parts (cellsFit n m (length targets)) (work && leb n (length out)) h in
-    let b = and-parts work (leb n (length out)) (a .1) in
+pub components-room : (n m : ℕ) (targets work out : List ℕ) → componentsFit n m targets work out ≡ true → Room (paritySystem n m targets) targets work out
+components-room n m targets work out h =
+    let a = and-parts (cellsFit n m (length targets)) (leb (5 * n) (length work) && leb n (length out)) h in
+    let b = and-parts (leb (5 * n) (length work)) (leb n (length out)) (a .1) in
     let c = cells-fit n m (length targets) (a .0) in
-    let w = work-fits n (length numbers) (length stack) (length starts) (length waiting) (length next) (b .0) in
-    (record { small = c .0; cell-room = c .2; number-room = w .0; stack-room = w .1; start-room = w .2; waiting-room = w .3; next-room = w .4; out-room = leb-true n (length out) (b .1) }, c .1)
+    record { small = c .0; letters-small = c .1; cell-room = c .2; work-room = leb-true (5 * n) (length work) (b .0); out-room = leb-true n (length out) (b .1) }
+
+-- the test that the code makes: five entries for each state, without a product that could wrap
+pub components-tested : (n m : ℕ) (targets work out : List ℕ) (b : Bool) → b ≡ cellsFit n m (length targets)
+    → b && (leb n (length work / 5) && leb n (length out)) ≡ componentsFit n m targets work out
+components-tested n m targets work out b e = rw (e, fifth (length work)) refl
+  where
+    fifth : (k : ℕ) → leb n (k / 5) ≡ leb (5 * n) k
+    fifth k = bool-ext (leb n (k / 5)) (leb (5 * n) k) (λ h. le-leb (5 * n) k (omega (arith, leb-true n (k / 5) h))) (λ h. le-leb n (k / 5) (omega (arith, leb-true (5 * n) k h)))
+
+pub reach-tested : (n m from : ℕ) (targets numbers queue parents by : List ℕ) (b : Bool) → b ≡ cellsFit n m (length targets)
+    → b && (leb m 256 && (ltb from n && (leb n (length numbers) && (leb n (length queue) && (leb n (length parents) && leb n (length by))))))
+    ≡ reachFits n m from targets numbers queue parents by
+reach-tested n m from targets numbers queue parents by b e = rw e refl
 
 pub reach-room : (n m from : ℕ) (targets numbers queue parents by : List ℕ) → reachFits n m from targets numbers queue parents by ≡ true
     → ReachRoom (paritySystem n m targets) targets numbers queue parents by × (from < n)
 reach-room n m from targets numbers queue parents by h =
-    let work = workFits n (length numbers) (length queue) (length parents) (length by) n in
-    let a = and-parts (cellsFit n m (length targets)) (leb m 256 && (ltb from n && work)) h in
-    let b = and-parts (leb m 256) (ltb from n && work) (a .1) in
-    let d = and-parts (ltb from n) work (b .1) in
-    let c = cells-fit n m (length targets) (a .0) in
-    let w = work-fits n (length numbers) (length queue) (length parents) (length by) n (d .1) in
-    (record { small = c .0; letters-small = leb-true m 256 (b .0); cell-room = c .2; number-room = w .0; queue-room = w .1; parent-room = w .2; letter-room = w .3 }, ltb-true from n (d .0))
+    let q = leb n (length queue) && (leb n (length parents) && leb n (length by)) in
+    let a = and-parts (cellsFit n m (length targets)) (leb m 256 && (ltb from n && (leb n (length numbers) && q))) h in
+    let b = and-parts (leb m 256) (ltb from n && (leb n (length numbers) && q)) (a .1) in
+    let d = and-parts (ltb from n) (leb n (length numbers) && q) (b .1) in
+    let e = and-parts (leb n (length numbers)) q (d .1) in
+    let f = and-parts (leb n (length queue)) (leb n (length parents) && leb n (length by)) (e .1) in
+    let g = and-parts (leb n (length parents)) (leb n (length by)) (f .1) in
+    let c = cells-fit n m (length targets) (a .0) in (
+      record {
+        small = c .0;
+        letters-small = leb-true m 256 (b .0);
+        cell-room = c .2;
+        number-room = leb-true n (length numbers) (e .0);
+        queue-room = leb-true n (length queue) (f .0);
+        parent-room = leb-true n (length parents) (g .0);
+        letter-room = leb-true n (length by) (g .1);
+      },
+      ltb-true from n (d .0),
+    )

@@ -1,7 +1,6 @@
 -- What the crate's calls promise, for all sizes and arrays. A prime marks an array's contents at exit.
 --     cellsFit n m t           n states and m letters are few enough, and t targets are enough for their cells
---     workFits n a b c d e     five arrays have an entry for each state
---     componentsFit n m ..     a search for components can begin: sizes, targets, five arrays to work in, and that of the results
+--     componentsFit n m ..     a search for components can begin: sizes, targets, five entries for each state to work in, and room for the results
 --     ComponentsFound n m ..   the smallest state of each state's component at the front of `out`, entries past the states untouched
 --     reachFits n m ..         a search from a state can begin
 --     ReachFound n m from ..   exactly the states that `from` reaches are met, each with the place that it was met from and the letter
@@ -23,20 +22,16 @@ use Rattle.components.specs.Reaches.{Reached, ReachSays}
 abbrev pub cellsFit : ℕ → ℕ → ℕ → Bool
 cellsFit n m t = ltb n doneNumber && (ltb m doneNumber && leb (n * m) t)
 
-abbrev pub workFits : ℕ → ℕ → ℕ → ℕ → ℕ → ℕ → Bool
-workFits n a b c d e = leb n a && (leb n b && (leb n c && (leb n d && leb n e)))
+abbrev pub componentsFit : ℕ → ℕ → List ℕ → List ℕ → List ℕ → Bool
+componentsFit n m targets work out = cellsFit n m (length targets) && (leb (5 * n) (length work) && leb n (length out))
 
-abbrev pub componentsFit : ℕ → ℕ → List ℕ → List ℕ → List ℕ → List ℕ → List ℕ → List ℕ → List ℕ → Bool
-componentsFit n m targets numbers stack starts waiting next out =
-    cellsFit n m (length targets) && (workFits n (length numbers) (length stack) (length starts) (length waiting) (length next) && leb n (length out))
-
-pub record ComponentsFound (n m : ℕ) (targets numbers stack starts waiting next out out′ : List ℕ) (r : Bool) : Type 0 where
-  pub answer : r ≡ componentsFit n m targets numbers stack starts waiting next out
+pub record ComponentsFound (n m : ℕ) (targets work out out′ : List ℕ) (r : Bool) : Type 0 where
+  pub answer : r ≡ componentsFit n m targets work out
   pub array : out′ ≡ pick r (over (tabulate n 0 (componentOf (paritySystem n m targets))) out) out
 
 abbrev pub reachFits : ℕ → ℕ → ℕ → List ℕ → List ℕ → List ℕ → List ℕ → List ℕ → Bool
 reachFits n m from targets numbers queue parents by =
-    cellsFit n m (length targets) && (leb m 256 && (ltb from n && workFits n (length numbers) (length queue) (length parents) (length by) n))
+    cellsFit n m (length targets) && (leb m 256 && (ltb from n && (leb n (length numbers) && (leb n (length queue) && (leb n (length parents) && leb n (length by))))))
 
 pub record ReachFound (n m from : ℕ) (targets numbers numbers′ queue queue′ parents parents′ by by′ : List ℕ) (r : ℕ) : Type 0 where
   pub unfit : reachFits n m from targets numbers queue parents by ≡ false

@@ -10,7 +10,7 @@ ghost use mathlib.Core.Path.{_≡_};
 ghost use Prim.Native.Nat.{ℕ, _<_, _≤_};
 ghost use lib.ListN.{length};
 ghost use Rattle.components.specs.Places.{at};
-ghost use Rattle.components.specs.Calls.{cellsFit, workFits, ComponentsFound, ReachFound, PathFound};
+ghost use Rattle.components.specs.Calls.{cellsFit, ComponentsFound, ReachFound, PathFound};
 
 // The sizes are small enough, and there is a target for each cell.
 fn cells_fit(states: usize, letters: usize, cells: usize) -> bool
@@ -20,13 +20,6 @@ fn cells_fit(states: usize, letters: usize, cells: usize) -> bool
         return false;
     }
     states * letters <= cells
-}
-
-// Five arrays have an entry for each state.
-fn work_fits(states: usize, a: usize, b: usize, c: usize, d: usize, e: usize) -> bool
-    ensures { λ r. ⌜ r ≡ workFits states a b c d e ⌝ }
-{
-    (states <= a) & ((states <= b) & ((states <= c) & ((states <= d) & (states <= e))))
 }
 
 // Clears the first n entries.
@@ -42,46 +35,24 @@ fn clear(n: usize, array: &mut [u16])
     }
 }
 
-// The smallest state of each state's component, in the first entries of `out`; false where the sizes or an array do not fit. The other
-// five arrays are to work in: what they hold afterwards is not said.
+// The smallest state of each state's component, in the first entries of `out`; false where the sizes or an array do not fit. In `work`
+// the search needs five entries for each state: what they hold afterwards is not said.
 pub fn find_components(
     states: usize,
     letters: usize,
     targets: &[u16],
-    numbers: &mut [u16],
-    stack: &mut [u16],
-    starts: &mut [u16],
-    waiting: &mut [u16],
-    next: &mut [u16],
+    work: &mut [u16],
     out: &mut [u16],
 ) -> bool
-    ensures { λ r. ⌜ ComponentsFound states letters (now (targets .entry)) (now (numbers .entry)) (now (stack .entry)) (now (starts .entry)) (now (waiting .entry)) (now (next .entry)) (now (out .entry)) (now (out .exit)) r ⌝ }
+    ensures { λ r. ⌜ ComponentsFound states letters (now (targets .entry)) (now (work .entry)) (now (out .entry)) (now (out .exit)) r ⌝ }
 {
-    let work = work_fits(
-        states,
-        numbers.len(),
-        stack.len(),
-        starts.len(),
-        waiting.len(),
-        next.len(),
-    );
-    let fits = cells_fit(states, letters, targets.len()) & (work & (states <= out.len()));
+    let fits = cells_fit(states, letters, targets.len())
+        & ((states <= work.len() / 5) & (states <= out.len()));
     if !fits {
         return false;
     }
-    clear(states, numbers);
-    clear(states, next);
-    paths::search_all(
-        states,
-        letters,
-        targets,
-        numbers,
-        stack,
-        starts,
-        waiting,
-        next,
-        out,
-    );
+    clear(5 * states, work);
+    paths::search_all(states, letters, targets, work, out);
     true
 }
 
@@ -99,16 +70,10 @@ pub fn find_reached(
 ) -> usize
     ensures { λ r. ⌜ ReachFound states letters from (now (targets .entry)) (now (numbers .entry)) (now (numbers .exit)) (now (queue .entry)) (now (queue .exit)) (now (parents .entry)) (now (parents .exit)) (now (by .entry)) (now (by .exit)) r ⌝ }
 {
-    let work = work_fits(
-        states,
-        numbers.len(),
-        queue.len(),
-        parents.len(),
-        by.len(),
-        states,
-    );
+    let rooms = (states <= numbers.len())
+        & ((states <= queue.len()) & ((states <= parents.len()) & (states <= by.len())));
     let fits = cells_fit(states, letters, targets.len())
-        & ((letters <= 256) & ((from < states) & work));
+        & ((letters <= 256) & ((from < states) & rooms));
     if !fits {
         return 0;
     }

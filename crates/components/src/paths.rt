@@ -1,6 +1,8 @@
 // A path-based search for components. The open states stand on a stack and fall into parts; each part shares a component and leads to
 // the next. A letter that leads back to an earlier part joins all parts from there on; a last part whose letters are all read is a
 // component. It takes time linear in the cells: each letter is read once, each state is opened and settled once, and each part is joined or settled once.
+// One array is lent to work in, for n states five times n entries: the states' numbers from 0 on, the stack from n, where each part starts
+// from 2 n, the states that wait from 3 n, and the states' next letters from 4 n.
 use crate::cells::target_at;
 ghost use mathlib.Core.Path.{_≡_};
 ghost use Prim.Native.Nat.{ℕ, _+_, _*_, _-_, _<_, _≤_};
@@ -10,7 +12,7 @@ ghost use Rattle.rules.specs.Says.{over};
 ghost use Rattle.rules.specs.Systems.{componentOf};
 ghost use Rattle.rules.specs.Judges.{paritySystem};
 ghost use Rattle.components.specs.Places.{at, Rising};
-ghost use Rattle.components.specs.Searching.{doneNumber, Searched, Joined, Scanned, Entered, Smallest, Settled, Room, TurnSays, SearchSays};
+ghost use Rattle.components.specs.Searching.{doneNumber, numbersIn, stackIn, startsIn, waitingIn, SearchedIn, Joined, Scanned, Entered, Smallest, Settled, Room, TurnSays, SearchSays};
 
 // The number of a state whose component is known.
 pub(crate) const DONE: u16 = 65535;
@@ -48,13 +50,13 @@ fn scan(
     targets: &[u16],
     q: usize,
     from: usize,
-    numbers: &[u16],
-    starts: &[u16],
+    work: &[u16],
     parts: usize,
 ) -> Reading
-    requires { ⌜ (q < n) × (n * m ≤ length (now targets)) × (n ≤ length (now numbers)) × (0 < parts) × (parts ≤ length (now starts)) × (at (now starts) 0 ≡ 0) × Rising parts (at (now starts)) ⌝ }
-    ensures { λ r. ⌜ Scanned (paritySystem n m (now (targets .entry))) (at (now (numbers .entry))) (at (now (starts .entry))) q from parts (r .letter) (r .parts) ⌝ }
+    requires { ⌜ (q < n) × (n * m ≤ length (now targets)) × (5 * n ≤ length (now work)) × (0 < parts) × (parts ≤ n) × (at (startsIn n (now work)) 0 ≡ 0) × Rising parts (at (startsIn n (now work))) ⌝ }
+    ensures { λ r. ⌜ Scanned (paritySystem n m (now (targets .entry))) (at (numbersIn n (now (work .entry)))) (at (startsIn n (now (work .entry)))) q from parts (r .letter) (r .parts) ⌝ }
 {
+    let starts = &work[2 * n..3 * n];
     let first = q * m;
     let mut kept = parts;
     let mut a = from;
@@ -62,7 +64,7 @@ fn scan(
     while a < m {
         let target = target_at(targets, first + a);
         if target < n {
-            let number = numbers[target];
+            let number = work[target];
             if number == 0 {
                 return Reading {
                     letter: a,
@@ -80,23 +82,14 @@ fn scan(
 }
 
 // Opens a state.
-fn enter(
-    q: usize,
-    count: usize,
-    parts: usize,
-    left: usize,
-    numbers: &mut [u16],
-    stack: &mut [u16],
-    starts: &mut [u16],
-    waiting: &mut [u16],
-)
-    requires { ⌜ (q < doneNumber) × (count < doneNumber) × (q < length (now numbers)) × (count < length (now stack)) × (parts < length (now starts)) × (left < length (now waiting)) ⌝ }
-    ensures { λ _. ⌜ Entered q count parts left (now (numbers .entry)) (now (numbers .exit)) (now (stack .entry)) (now (stack .exit)) (now (starts .entry)) (now (starts .exit)) (now (waiting .entry)) (now (waiting .exit)) ⌝ }
+fn enter(n: usize, q: usize, count: usize, parts: usize, left: usize, work: &mut [u16])
+    requires { ⌜ (n < doneNumber) × (q < n) × (count < n) × (parts < n) × (left < n) × (5 * n ≤ length (now work)) ⌝ }
+    ensures { λ _. ⌜ Entered n q count parts left (now (work .entry)) (now (work .exit)) ⌝ }
 {
-    numbers[q] = (count + 1) as u16;
-    stack[count] = q as u16;
-    starts[parts] = count as u16;
-    waiting[left] = q as u16;
+    work[q] = (count + 1) as u16;
+    work[n + count] = q as u16;
+    work[2 * n + parts] = count as u16;
+    work[3 * n + left] = q as u16;
 }
 
 // The smallest of the states at some places.
@@ -118,15 +111,15 @@ fn smallest(stack: &[u16], from: usize, to: usize) -> u16
 }
 
 // Gives the states at some places their component.
-fn settle(label: u16, from: usize, to: usize, stack: &[u16], numbers: &mut [u16], outs: &mut [u16])
-    requires { ⌜ (from ≤ to) × (to ≤ length (now stack)) × ((i : ℕ) → from ≤ i → i < to → at (now stack) i < length (now numbers)) × ((i : ℕ) → from ≤ i → i < to → at (now stack) i < length (now outs)) ⌝ }
-    ensures { λ _. ⌜ Settled label from to (at (now (stack .entry))) (now (numbers .entry)) (now (numbers .exit)) (now (outs .entry)) (now (outs .exit)) ⌝ }
+fn settle(n: usize, label: u16, from: usize, to: usize, work: &mut [u16], outs: &mut [u16])
+    requires { ⌜ (from ≤ to) × (to ≤ n) × (5 * n ≤ length (now work)) × (n ≤ length (now outs)) × ((i : ℕ) → i < to → at (stackIn n (now work)) i < n) ⌝ }
+    ensures { λ _. ⌜ Settled n label from to (now (work .entry)) (now (work .exit)) (now (outs .entry)) (now (outs .exit)) ⌝ }
 {
     let mut i = from;
     // the states at the places from `from` up to i have their component
     while i < to {
-        let q = stack[i] as usize;
-        numbers[q] = DONE;
+        let q = work[n + i] as usize;
+        work[q] = DONE;
         outs[q] = label;
         i += 1;
     }
@@ -141,21 +134,18 @@ fn extend(
     count: usize,
     parts: usize,
     left: usize,
-    numbers: &mut [u16],
-    stack: &mut [u16],
-    starts: &mut [u16],
-    waiting: &mut [u16],
-    next: &mut [u16],
+    work: &mut [u16],
     outs: &[u16],
 ) -> Heights
-    requires { ⌜ Room (paritySystem n m (now targets)) (now targets) (now numbers) (now stack) (now starts) (now waiting) (now next) (now outs) × (m < doneNumber) × Searched (paritySystem n m (now targets)) count parts left (at (now numbers)) (at (now stack)) (at (now starts)) (at (now waiting)) (at (now next)) (at (now outs)) × (0 < left) × (0 < parts) × (at (now waiting) (left - 1) ≡ q) × (at (now starts) (parts - 1) < at (now numbers) q) ⌝ }
-    ensures { λ r. ⌜ TurnSays (paritySystem n m (now (targets .entry))) count parts left (r .open) (r .parts) (r .waiting) (now (numbers .entry)) (now (numbers .exit)) (now (stack .exit)) (now (starts .exit)) (now (waiting .exit)) (now (next .exit)) (now (outs .entry)) (now (outs .entry)) ⌝ }
+    requires { ⌜ Room (paritySystem n m (now targets)) (now targets) (now work) (now outs) × SearchedIn (paritySystem n m (now targets)) count parts left (now work) (now outs) × (0 < left) × (0 < parts) × (at (waitingIn n (now work)) (left - 1) ≡ q) × (at (startsIn n (now work)) (parts - 1) < at (numbersIn n (now work)) q) ⌝ }
+    ensures { λ r. ⌜ TurnSays (paritySystem n m (now (targets .entry))) count parts left (r .open) (r .parts) (r .waiting) (now (work .entry)) (now (work .exit)) (now (outs .entry)) (now (outs .entry)) ⌝ }
 {
-    let found = scan(n, m, targets, q, next[q] as usize, numbers, starts, parts);
+    let next = 4 * n + q;
+    let found = scan(n, m, targets, q, work[next] as usize, work, parts);
     let letter = found.letter;
     let kept = found.parts;
     if m <= letter {
-        next[q] = m as u16;
+        work[next] = m as u16;
         return Heights {
             open: count,
             parts: kept,
@@ -163,8 +153,8 @@ fn extend(
         };
     }
     let target = target_at(targets, q * m + letter);
-    enter(target, count, kept, left, numbers, stack, starts, waiting);
-    next[q] = (letter + 1) as u16;
+    enter(n, target, count, kept, left, work);
+    work[next] = (letter + 1) as u16;
     Heights {
         open: count + 1,
         parts: kept + 1,
@@ -180,40 +170,22 @@ fn turn(
     count: usize,
     parts: usize,
     left: usize,
-    numbers: &mut [u16],
-    stack: &mut [u16],
-    starts: &mut [u16],
-    waiting: &mut [u16],
-    next: &mut [u16],
+    work: &mut [u16],
     outs: &mut [u16],
 ) -> Heights
-    requires { ⌜ Room (paritySystem n m (now targets)) (now targets) (now numbers) (now stack) (now starts) (now waiting) (now next) (now outs) × (m < doneNumber) × Searched (paritySystem n m (now targets)) count parts left (at (now numbers)) (at (now stack)) (at (now starts)) (at (now waiting)) (at (now next)) (at (now outs)) × (0 < count) ⌝ }
-    ensures { λ r. ⌜ TurnSays (paritySystem n m (now (targets .entry))) count parts left (r .open) (r .parts) (r .waiting) (now (numbers .entry)) (now (numbers .exit)) (now (stack .exit)) (now (starts .exit)) (now (waiting .exit)) (now (next .exit)) (now (outs .entry)) (now (outs .exit)) ⌝ }
+    requires { ⌜ Room (paritySystem n m (now targets)) (now targets) (now work) (now outs) × SearchedIn (paritySystem n m (now targets)) count parts left (now work) (now outs) × (0 < count) ⌝ }
+    ensures { λ r. ⌜ TurnSays (paritySystem n m (now (targets .entry))) count parts left (r .open) (r .parts) (r .waiting) (now (work .entry)) (now (work .exit)) (now (outs .entry)) (now (outs .exit)) ⌝ }
 {
-    let start = starts[parts - 1];
+    let start = work[2 * n + (parts - 1)];
     if 0 < left {
-        let q = waiting[left - 1] as usize;
-        if start < numbers[q] {
-            return extend(
-                n,
-                m,
-                targets,
-                q,
-                count,
-                parts,
-                left,
-                numbers,
-                stack,
-                starts,
-                waiting,
-                next,
-                outs,
-            );
+        let q = work[3 * n + (left - 1)] as usize;
+        if start < work[q] {
+            return extend(n, m, targets, q, count, parts, left, work, outs);
         }
     }
     let from = start as usize;
-    let label = smallest(stack, from, count);
-    settle(label, from, count, stack, numbers, outs);
+    let label = smallest(&work[n..2 * n], from, count);
+    settle(n, label, from, count, work, outs);
     Heights {
         open: from,
         parts: parts - 1,
@@ -222,44 +194,20 @@ fn turn(
 }
 
 // Searches from a state, unless it is met already: everything that it reaches has its component.
-fn search(
-    n: usize,
-    m: usize,
-    targets: &[u16],
-    root: usize,
-    numbers: &mut [u16],
-    stack: &mut [u16],
-    starts: &mut [u16],
-    waiting: &mut [u16],
-    next: &mut [u16],
-    outs: &mut [u16],
-)
-    requires { ⌜ Room (paritySystem n m (now targets)) (now targets) (now numbers) (now stack) (now starts) (now waiting) (now next) (now outs) × (m < doneNumber) × Searched (paritySystem n m (now targets)) 0 0 0 (at (now numbers)) (at (now stack)) (at (now starts)) (at (now waiting)) (at (now next)) (at (now outs)) × (root < n) ⌝ }
-    ensures { λ _. ⌜ SearchSays (paritySystem n m (now (targets .entry))) root (now (numbers .entry)) (now (numbers .exit)) (now (stack .exit)) (now (starts .exit)) (now (waiting .exit)) (now (next .exit)) (now (outs .entry)) (now (outs .exit)) ⌝ }
+fn search(n: usize, m: usize, targets: &[u16], root: usize, work: &mut [u16], outs: &mut [u16])
+    requires { ⌜ Room (paritySystem n m (now targets)) (now targets) (now work) (now outs) × SearchedIn (paritySystem n m (now targets)) 0 0 0 (now work) (now outs) × (root < n) ⌝ }
+    ensures { λ _. ⌜ SearchSays (paritySystem n m (now (targets .entry))) root (now (work .entry)) (now (work .exit)) (now (outs .entry)) (now (outs .exit)) ⌝ }
 {
-    if numbers[root] != 0 {
+    if work[root] != 0 {
         return;
     }
-    enter(root, 0, 0, 0, numbers, stack, starts, waiting);
+    enter(n, root, 0, 0, 0, work);
     let mut count = 1;
     let mut parts = 1;
     let mut left = 1;
-    // `Searched`: the open states in their parts, the letters read, the components found
+    // `SearchedIn`: the open states in their parts, the letters read, the components found
     while 0 < count {
-        let heights = turn(
-            n,
-            m,
-            targets,
-            count,
-            parts,
-            left,
-            numbers,
-            stack,
-            starts,
-            waiting,
-            next,
-            outs,
-        );
+        let heights = turn(n, m, targets, count, parts, left, work, outs);
         count = heights.open;
         parts = heights.parts;
         left = heights.waiting;
@@ -267,35 +215,14 @@ fn search(
 }
 
 // Searches from every state that is not yet met.
-pub(crate) fn search_all(
-    n: usize,
-    m: usize,
-    targets: &[u16],
-    numbers: &mut [u16],
-    stack: &mut [u16],
-    starts: &mut [u16],
-    waiting: &mut [u16],
-    next: &mut [u16],
-    outs: &mut [u16],
-)
-    requires { ⌜ Room (paritySystem n m (now targets)) (now targets) (now numbers) (now stack) (now starts) (now waiting) (now next) (now outs) × (m < doneNumber) × ((q : ℕ) → q < n → at (now numbers) q ≡ 0) × ((q : ℕ) → q < n → at (now next) q ≡ 0) ⌝ }
+pub(crate) fn search_all(n: usize, m: usize, targets: &[u16], work: &mut [u16], outs: &mut [u16])
+    requires { ⌜ Room (paritySystem n m (now targets)) (now targets) (now work) (now outs) × ((i : ℕ) → i < 5 * n → at (now work) i ≡ 0) ⌝ }
     ensures { λ _. ⌜ now (outs .exit) ≡ over (tabulate n 0 (componentOf (paritySystem n m (now (targets .entry))))) (now (outs .entry)) ⌝ }
 {
     let mut q = 0;
     // no state is open, and the states below q have their component
     while q < n {
-        search(
-            n,
-            m,
-            targets,
-            q,
-            numbers,
-            stack,
-            starts,
-            waiting,
-            next,
-            outs,
-        );
+        search(n, m, targets, q, work, outs);
         q += 1;
     }
 }

@@ -1,52 +1,50 @@
 -- `components::paths::settle` meets its contract.
-use Prim.Native.Nat.{_-_, _≤_}
-use mathlib.Core.Path.{_≡_, refl}
+use Prim.Native.Nat.{ℕ, _+_, _-_, _<_, _≤_}
+use mathlib.Core.Path.{_≡_, refl, sym, ap, _∙_}
 use native.Mathlib.Omega.{arith}
-use lib.ListN.{length}
+use native.Mathlib.Nat.{le-antisymm}
+use mathlib.Core.List.{List}
+use lib.ListN.{length, length-set}
 use borrow.Author.Needs.{needs}
 use Rattle.components.specs.Places.{at}
-use Rattle.components.specs.Searching.{Settled}
+use Rattle.components.specs.Searching.{stackIn, Settled}
+use Rattle.components.proofs.Stores.{part-at, part-behind}
 use Rattle.components.proofs.Loops.{settled-none, settled-more}
-use lib.ListN.{length-set}
-use native.Mathlib.Nat.{le-antisymm}
 use Rattle.components.proofs.paths.settle.Statement.{statement}
 use Rattle.components.proofs.paths.settle.Tie as tie
 
 abbrev Inv-loop : tie.InvT-loop
-Inv-loop label from to stack numbers₀ outs₀ i₀ numbers outs i = (from ≤ i) × (i ≤ to) × (length numbers ≡ length numbers₀) × (length outs ≡ length outs₀) × Settled label from i (at stack) numbers₀ numbers outs₀ outs
+Inv-loop n label from to work₀ outs₀ i₀ work outs i = (from ≤ i) × (i ≤ to) × (length work ≡ length work₀) × (length outs ≡ length outs₀) × Settled n label from i work₀ work outs₀ outs
 
 abbrev μ-loop : tie.MeasureT-loop
-μ-loop label from to stack numbers₀ outs₀ i₀ numbers outs i = to - i
+μ-loop n label from to work₀ outs₀ i₀ work outs i = to - i
+
+-- a place is left
+module _ (c : tie.In-loop Inv-loop μ-loop) where
+  abbrev s : tie.Start Inv-loop μ-loop
+  s = c .before .before
+
+  abbrev t : tie.At-loop Inv-loop μ-loop
+  t = c .before
+
+  -- the state that stands there
+  is : at (t .loop .work) (s .args .n + t .loop .i) ≡ at (stackIn (s .args .n) (s .args .work .now)) (t .loop .i)
+  is =
+      sym (part-at (s .args .n) (s .args .n) (t .loop .i) (t .loop .work) (omega (arith, c .loop-test .taken, s .pre .1)))
+      ∙ ap (λ (xs : List ℕ). at xs (t .loop .i)) (part-behind (s .args .n) (s .args .n) (t .loop .work) (s .args .work .now) (t .loop .inv .4 .parts-kept) (omega arith))
+
+  state : at (t .loop .work) (s .args .n + t .loop .i) < s .args .n
+  state = rw is (s .pre .4 (t .loop .i) (c .loop-test .taken))
 
 loop-holds : tie.Need-loop-holds Inv-loop μ-loop
 loop-holds c = (search needs, search needs, refl, refl, settled-none _ _ _ _ _)
 
-cast-q : tie.Need-cast-q Inv-loop μ-loop
-cast-q c = omega (arith, c .shared-slice-known .given (c .before .before .loop .i))
-
-mul-numbers : tie.Need-mul-numbers Inv-loop μ-loop
-mul-numbers c = omega (arith, c .shared-slice-known .given (c .before .before .loop .i))
-
-slice-write-numbers : tie.Need-slice-write-numbers Inv-loop μ-loop
-slice-write-numbers c = let t = c .before .before .loop in omega (arith, c .before .before .before .pre .2 (t .i) (t .inv .0) (c .before .loop-test .taken))
-
-mul-outs : tie.Need-mul-outs Inv-loop μ-loop
-mul-outs c = omega (arith, c .shared-slice-known .given (c .before .before .loop .i))
-
-slice-write-outs : tie.Need-slice-write-outs Inv-loop μ-loop
-slice-write-outs c = let t = c .before .before .loop in omega (arith, c .before .before .before .pre .3 (t .i) (t .inv .0) (c .before .loop-test .taken))
-
 loop-again : tie.Need-loop-again Inv-loop μ-loop
-loop-again c = let t = c .before .before .loop in
-    let s = c .before .before .before in
-    let u = c .before .loop-test .taken in
-    (omega arith, omega arith, simp length-set (t .inv .2), simp length-set (t .inv .3), settled-more _ _ _ _ _ _ _ _ (t .inv .0) (omega (arith, s .pre .2 (t .i) (t .inv .0) u)) (omega (arith, s .pre .3 (t .i) (t .inv .0) u)) (t .inv .4))
-
-same-length : tie.Need-same-length Inv-loop μ-loop
-same-length c = c .before .loop .inv .2
-
-same-length-2 : tie.Need-same-length-2 Inv-loop μ-loop
-same-length-2 c = c .before .loop .inv .3
+loop-again c =
+    let u : tie.In-loop Inv-loop μ-loop = c .before in
+    let v = u .before .loop .inv in
+    let l = state u in
+    (omega arith, omega arith, simp length-set (v .2), simp length-set (v .3), settled-more _ _ _ _ _ _ _ _ _ (v .4) (v .0) (is u) l (omega (arith, v .2, s u .pre .2)) (omega (arith, v .3, s u .pre .3)))
 
 returns : tie.Need-returns Inv-loop μ-loop
 returns c = rw (le-antisymm (c .before .loop .inv .1) (c .loop-test .left)) at (c .before .loop .inv .4)
@@ -54,5 +52,7 @@ returns c = rw (le-antisymm (c .before .loop .inv .1) (c .loop-test .left)) at (
 pub settle-spec : {M : Type 1} → statement M
 settle-spec =
     tie.close
-    (tie.spec Inv-loop μ-loop loop-holds (λ c. search needs) (λ c. search needs) cast-q mul-numbers slice-write-numbers mul-outs slice-write-outs
-    (λ c. search needs) (λ c. search needs) loop-again same-length same-length-2 returns)
+    (tie.spec Inv-loop μ-loop loop-holds (λ c. search needs) (λ c. search needs) (λ c. search needs) (λ c. omega (arith, state (c .before)))
+    (λ c. omega (arith, state (c .before))) (λ c. omega (arith, state (c .before), c .before .before .loop .inv .2))
+    (λ c. omega (arith, state (c .before))) (λ c. omega (arith, state (c .before), c .before .before .loop .inv .3)) (λ c. search needs)
+    (λ c. search needs) loop-again (λ c. c .before .loop .inv .2) (λ c. c .before .loop .inv .3) returns)

@@ -1,98 +1,101 @@
 -- `components::paths::turn` meets its contract.
-use Prim.Native.Nat.{ℕ, _-_, _<_, _≤_}
-use mathlib.Core.Path.{refl}
+use mathlib.Core.Path.{_≡_, refl, sym}
+use mathlib.Core.List.{List}
+use mathlib.Core.Logic.{⊎-elim}
+use Prim.Native.Nat.{ℕ, _+_, _*_, _-_, _<_, _≤_}
 use native.Mathlib.Omega.{arith}
 use borrow.Author.Needs.{needs}
-use mathlib.Core.Logic.{⊎-elim}
+use lib.ListN.{length}
+use lib.Seq.{getD-take}
 use Rattle.components.specs.Places.{at}
+use Rattle.components.specs.Searching.{doneNumber, numbersIn, startsIn, waitingIn}
 use Rattle.components.proofs.Searches.{parts-few, waiting-few}
+use Rattle.components.proofs.Stores.{part-at, part-length}
 use Rattle.components.proofs.Turns.{quiet-below, turn-settled}
 use Rattle.components.proofs.paths.turn.Statement.{statement}
 use Rattle.components.proofs.paths.turn.Tie as tie
 
+-- the part that is lent is the stack
+half : (n : ℕ) → 2 * n - n ≡ n
+half n = omega arith
+
 -- what holds at the entry
 module _ (s : tie.Start) where
-  some-parts : 0 < s .args .parts
-  some-parts = s .pre .2 .parts .some (s .pre .3)
+  abbrev n : ℕ
+  n = s .args .n
 
-  few : s .args .count ≤ s .args .n
-  few = s .pre .2 .places .few
+  abbrev work : List ℕ
+  work = s .args .work .now
 
-  parts-below : s .args .parts ≤ s .args .n
-  parts-below = omega (arith, parts-few _ _ _ _ _ (s .pre .2 .parts), few)
+  few : (0 < s .args .parts) × (s .args .parts ≤ n) × (s .args .left ≤ n) × (s .args .count ≤ n) × (n < doneNumber) × (5 * n ≤ length work)
+  few =
+      let x = s .pre .1 .searched in
+      let f = x .places .few in
+      (x .parts .some (s .pre .2), omega (arith, parts-few _ _ _ _ _ (x .parts)), omega (arith, waiting-few _ _ _ _ _ _ _ _ (x .letters)), f, s .pre .0 .small, s .pre .0 .work-room)
 
-  left-below : s .args .left ≤ s .args .n
-  left-below = omega (arith, waiting-few _ _ _ _ _ _ _ _ (s .pre .2 .letters), few)
-
+  -- where the last part starts, and the state that waits last
   abbrev last : ℕ
-  last = at (s .args .starts .now) (s .args .parts - 1)
+  last = at work (2 * n + (s .args .parts - 1))
+
+  last-is : at (startsIn n work) (s .args .parts - 1) ≡ last
+  last-is = part-at n (2 * n) (s .args .parts - 1) work (omega (arith, few))
 
   last-below : last < s .args .count
-  last-below = s .pre .2 .parts .within (s .args .parts - 1) (omega (arith, some-parts))
+  last-below = omega (arith, last-is, s .pre .1 .searched .parts .within (s .args .parts - 1) (omega (arith, few)))
 
-  waiting-state : 0 < s .args .left → at (s .args .waiting .now) (s .args .left - 1) < s .args .n
-  waiting-state h = s .pre .2 .letters .state (s .args .left - 1) (omega arith)
+  abbrev waits : ℕ
+  waits = at work (3 * n + (s .args .left - 1))
+
+  waits-is : 0 < s .args .left → at (waitingIn n work) (s .args .left - 1) ≡ waits
+  waits-is h = part-at n (3 * n) (s .args .left - 1) work (omega (arith, few))
+
+  waits-state : 0 < s .args .left → waits < n
+  waits-state h = rw (waits-is h) at (s .pre .1 .searched .letters .state (s .args .left - 1) (omega arith))
+
+  number-is : 0 < s .args .left → at (numbersIn n work) waits ≡ at work waits
+  number-is h = getD-take n work waits 0 (waits-state h)
 
 -- where the last part has nothing left to read
 module _ (c : tie.Joined1) where
   abbrev s : tie.Start
-  s = c .before .before .before .before .before .before .before .before .before
+  s = c .before .before .before .before .before
 
-  quiet : (j : ℕ) → j < s .args .left → at (s .args .numbers .now) (at (s .args .waiting .now) j) ≤ last s
+  quiet : (j : ℕ) → j < s .args .left → at (numbersIn (n s) (work s)) (at (waitingIn (n s) (work s)) j) ≤ at (startsIn (n s) (work s)) (s .args .parts - 1)
   quiet =
       ⊎-elim
-      (λ w. quiet-below _ _ _ _ _ _ _ _ _ (s .pre .2 .letters) (w .3 .left))
+      (λ w. quiet-below _ _ _ _ _ _ _ _ _ (s .pre .1 .searched .letters) (let h = w .0 .taken in rw (waits-is s h) (omega (arith, last-is s, number-is s h, w .3 .left))))
       (λ w j h. absurd (omega (arith, w .left)))
       (c .if1 .came)
 
-sub-start : tie.Need-sub-start
-sub-start c = omega (arith, some-parts (c .before .before .before .before .before .before .before), parts-below (c .before .before .before .before .before .before .before), c .before .before .before .before .before .before .before .pre .0 .start-room)
-
-mul-start : tie.Need-mul-start
-mul-start c = omega (arith, some-parts (c .before .before .before .before .before .before .before), parts-below (c .before .before .before .before .before .before .before), c .before .before .before .before .before .before .before .pre .0 .start-room)
-
-slice-read-start : tie.Need-slice-read-start
-slice-read-start c = omega (arith, some-parts (c .before .before .before .before .before .before .before .before), parts-below (c .before .before .before .before .before .before .before .before), c .before .before .before .before .before .before .before .before .pre .0 .start-room)
-
-mul-q : tie.Need-mul-q
-mul-q c = omega (arith, left-below (c .before .before .before .before .before .before .before .before .before), c .before .before .before .before .before .before .before .before .before .pre .0 .waiting-room)
-
-slice-read-q : tie.Need-slice-read-q
-slice-read-q c = omega (arith, left-below (c .before .before .before .before .before .before .before .before .before .before), c .before .before .before .before .before .before .before .before .before .before .pre .0 .waiting-room)
-
-cast-q : tie.Need-cast-q
-cast-q c = omega (arith, c .slice-known8 .given (c .before .before .before .before .before .before .before .before .before .before .args .left - 1))
-
-mul-if2 : tie.Need-mul-if2
-mul-if2 c = omega (arith, waiting-state (c .before .before .before .before .before .before .before .before .before .before) (c .before .if1 .taken), c .before .before .before .before .before .before .before .before .before .before .pre .0 .number-room)
-
-slice-read-if2 : tie.Need-slice-read-if2
-slice-read-if2 c = omega (arith, waiting-state (c .before .before .before .before .before .before .before .before .before .before .before) (c .before .before .if1 .taken), c .before .before .before .before .before .before .before .before .before .before .before .pre .0 .number-room)
-
 extend-requires : tie.Need-extend-requires
-extend-requires c κs = let s = c .before .before .before .before .before .before .before .before .before .before .before .before .before .before .before .before .before .before in (s .pre .0, s .pre .1, s .pre .2, c .before .before .before .before .before .before .before .before .before .if1 .taken, some-parts s, refl, c .before .before .before .before .before .before .if2 .taken)
-
-cast-from : tie.Need-cast-from
-cast-from c = omega (arith, last-below (c .before .before .before .before .before .before .before .before .before), few (c .before .before .before .before .before .before .before .before .before), c .before .before .before .before .before .before .before .before .before .pre .0 .small)
+extend-requires c κs =
+    let s = c .before .before .before .before .before .before .before .before .before .before in
+    let h = c .before .before .before .before .before .if1 .taken in
+    (s .pre .0, s .pre .1, h, few s .0, waits-is s h, omega (arith, last-is s, number-is s h, c .before .before .if2 .taken))
 
 smallest-requires : tie.Need-smallest-requires
-smallest-requires c κs = let s = c .before .before .before .before .before .before .before .before .before .before in (last-below s, omega (arith, few s, s .pre .0 .stack-room))
+smallest-requires c κs = let s = c .before .before .before .before .before .before .before in (last-below s, rw (half (n s)) (omega (arith, few s, part-length (n s) (n s) (work s) (omega (arith, few s)))))
 
 settle-requires : tie.Need-settle-requires
-settle-requires c κs = let s = c .before .before .before .before .before .before .before .before .before .before .before .before .before .before in
-    let places = s .pre .2 .places in
-    (omega (arith, last-below s), omega (arith, few s, s .pre .0 .stack-room), λ i l u. omega (arith, places .state i u, s .pre .0 .number-room), λ i l u. omega (arith, places .state i u, s .pre .0 .out-room))
-
-sub-t17 : tie.Need-sub-t17
-sub-t17 c = omega (arith, some-parts (c .before .before .before .before .before .before .before .before .before .before .before .before .before .before .before .before .before .before .before))
+settle-requires c κs =
+    let s = c .before .before .before .before .before .before .before .before .before .before in
+    (omega (arith, last-below s), few s .3, few s .5, s .pre .0 .out-room, λ i u. s .pre .1 .searched .places .state i u)
 
 returns-2 : tie.Need-returns-2
-returns-2 c = let s = c .before .before .before .before .before .before .before .before .before .before .before .before .before .before .before .before .before .before .before in
-    turn-settled _ _ _ _ _ _ _ _ _ _ _ _ _ _ (s .pre .0) (s .pre .2) (some-parts s) (quiet (c .before .before .before .before .before .before .before .before .before .before)) (c .before .before .before .before .before .before .before .before .smallest .ensures) (c .before .before .before .before .settle .ensures)
+returns-2 c =
+    let j : tie.Joined1 = c .before .before .before .before .before .before .before .before .before .before in
+    let t = s j in
+    turn-settled _ _ _ _ _ _ _ _ _ _ (t .pre .0) (t .pre .1) (few t .0) (quiet j) _ (sym (last-is t)) (rw (half (n t)) at (c .before .before .before .before .before .before .before .smallest .ensures)) (c .before .before .before .before .settle .ensures)
 
 pub turn-spec : {M : Type 1} → statement M
 turn-spec =
     tie.close
-    (tie.spec sub-start mul-start slice-read-start (λ c. search needs) mul-q slice-read-q cast-q mul-if2 slice-read-if2 extend-requires
-    (λ c. search needs) (λ c. search needs) (λ c. search needs) (λ c. search needs) (λ c. search needs) (λ c. search needs) (λ c. search needs)
-    cast-from smallest-requires settle-requires sub-t17 (λ c. search needs) (λ c. search needs) (λ c. search needs) returns-2)
+    (tie.spec (λ c. search needs) (λ c. omega (arith, few (c .before .before .before))) (λ c. omega (arith, few (c .before .before .before)))
+    (λ c. omega (arith, few (c .before .before .before))) (λ c. omega (arith, few (c .before .before .before .before))) (λ c. search needs) (λ c. search needs) (λ c. omega (arith, few (c .before .before .before .before .before)))
+    (λ c. omega (arith, few (c .before .before .before .before .before))) (λ c. omega (arith, few (c .before .before .before .before .before .before)))
+    (λ c. omega (arith, waits-state (c .before .before .before .before .before .before) (c .before .if1 .taken), few (c .before .before .before .before .before .before)))
+    (λ c. omega (arith, waits-state (c .before .before .before .before .before .before) (c .before .if1 .taken), few (c .before .before .before .before .before .before)))
+    (λ c. omega (arith, waits-state (c .before .before .before .before .before .before .before) (c .before .before .if1 .taken), few (c .before .before .before .before .before .before .before)))
+    extend-requires (λ c. search needs) (λ c. search needs) (λ c. search needs)
+    (λ c. omega (arith, last-below (s c), few (s c))) (λ c. search needs) (λ c. search needs) (λ c. search needs) (λ c. search needs) (λ c. search needs) smallest-requires settle-requires
+    (λ c. few (c .before .before .before .before .before .before .before .before .before .before .before .before .before .before .before) .0) (λ c. search needs) (λ c. search needs) returns-2)
