@@ -118,17 +118,13 @@ uint8_t duckbullion_find_components(const uint8_t *table, size_t table_length,
 /*
  * Systems in an array, for tests and benchmarks. A system has n states and m letters, both below 65,535; cell q*m + a of
  * targets says where state q goes by letter a, and a target that is no state means that there is no transition.
- * Result: true where n and m are in range, targets has n*m entries and each other array n; else false, and nothing is
+ * Result: true where n and m are in range, targets has n*m entries, work 5*n and out n; else false, and nothing is
  * written. On true the first n entries of out are, state by state, the smallest state of the state's component, and the
- * entries behind are untouched. The five arrays in between are to work in: what they hold afterwards is not said.
+ * entries behind are untouched. The array work is to work in: what it holds afterwards is not said.
  */
 bool duckbullion_find_components_of_system(size_t states, size_t letters,
                                            const uint16_t *targets, size_t targets_length,
-                                           uint16_t *numbers, size_t numbers_length,
-                                           uint16_t *stack, size_t stack_length,
-                                           uint16_t *starts, size_t starts_length,
-                                           uint16_t *waiting, size_t waiting_length,
-                                           uint16_t *next, size_t next_length,
+                                           uint16_t *work, size_t work_length,
                                            uint16_t *out, size_t out_length);
 
 /*

@@ -74,16 +74,8 @@ extern "C" {
         letters: usize,
         targets: *const u16,
         targets_len: usize,
-        numbers: *mut u16,
-        numbers_len: usize,
-        stack: *mut u16,
-        stack_len: usize,
-        starts: *mut u16,
-        starts_len: usize,
-        waiting: *mut u16,
-        waiting_len: usize,
-        next: *mut u16,
-        next_len: usize,
+        work: *mut u16,
+        work_len: usize,
         out: *mut u16,
         out_len: usize,
     ) -> bool;
@@ -187,30 +179,15 @@ pub fn find_components(table: &[u8], out: &mut [u8]) -> u8 {
     unsafe { duckbullion_find_components(table.as_ptr(), table.len(), out_at, out_len) }
 }
 
-/// The five arrays that a search for components works in.
-#[derive(Clone, Debug)]
-pub struct Work {
-    arrays: [Vec<u16>; 5],
-}
-
-impl Work {
-    /// Arrays for so many states, filled with one number.
-    pub fn new(states: usize, number: u16) -> Work {
-        Work {
-            arrays: std::array::from_fn(|_| vec![number; states]),
-        }
-    }
-}
-
-/// Gives each state of a system in an array the smallest state of its component; false if sizes or arrays do not fit.
+/// Gives each state of a system in an array the smallest state of its component; false if sizes or arrays do not fit:
+/// `work`, to work in, needs five entries for each state.
 pub fn find_components_of_system(
     states: usize,
     letters: usize,
     targets: &[u16],
-    work: &mut Work,
+    work: &mut [u16],
     out: &mut [u16],
 ) -> bool {
-    let [numbers, stack, starts, waiting, next] = &mut work.arrays;
     // SAFETY: each pointer has its own slice's length, and the written slices are lent alone.
     unsafe {
         duckbullion_find_components_of_system(
@@ -218,16 +195,8 @@ pub fn find_components_of_system(
             letters,
             targets.as_ptr(),
             targets.len(),
-            numbers.as_mut_ptr(),
-            numbers.len(),
-            stack.as_mut_ptr(),
-            stack.len(),
-            starts.as_mut_ptr(),
-            starts.len(),
-            waiting.as_mut_ptr(),
-            waiting.len(),
-            next.as_mut_ptr(),
-            next.len(),
+            work.as_mut_ptr(),
+            work.len(),
             out.as_mut_ptr(),
             out.len(),
         )

@@ -519,7 +519,7 @@ fn compare_system(shape: systems::Shape, random: &mut Random, states: usize, let
     let found = systems::components(states, letters, &targets);
     let behind = random.below(9);
     targets.extend((0..behind).map(|_| random.below(states) as u16));
-    let mut work = calls::Work::new(states + behind, 7);
+    let mut work = vec![7; 5 * (states + behind)];
     let mut out = vec![9; states + behind];
     let what = format!("{shape:?}, {states} states, {letters} letters");
     assert!(
@@ -573,7 +573,7 @@ fn systems_of_every_shape() {
     // what does not fit is answered as such, and nothing is written
     let targets = [0; 6];
     for (states, letters, room) in [(4, 2, 4), (3, 2, 2), (65535, 0, 70000), (1, 65535, 9)] {
-        let mut work = calls::Work::new(room, 7);
+        let mut work = vec![7; 5 * room];
         let mut out = vec![9; room];
         assert!(!calls::find_components_of_system(
             states, letters, &targets, &mut work, &mut out

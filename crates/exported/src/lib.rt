@@ -60,32 +60,18 @@ pub extern "C" fn duckbullion_find_components(table: &[u8], out: &mut [u8]) -> u
     find_components(table, out)
 }
 
-// The smallest state of each state's component of a system in an array, in the first entries of `out`, with five arrays to work in.
+// The smallest state of each state's component of a system in an array, in the first entries of `out`, with an array to work in.
 #[no_mangle]
 pub extern "C" fn duckbullion_find_components_of_system(
     states: usize,
     letters: usize,
     targets: &[u16],
-    numbers: &mut [u16],
-    stack: &mut [u16],
-    starts: &mut [u16],
-    waiting: &mut [u16],
-    next: &mut [u16],
+    work: &mut [u16],
     out: &mut [u16],
 ) -> bool
-    ensures { λ r. ⌜ ComponentsFound states letters (now (targets .entry)) (now (numbers .entry)) (now (stack .entry)) (now (starts .entry)) (now (waiting .entry)) (now (next .entry)) (now (out .entry)) (now (out .exit)) r ⌝ }
+    ensures { λ r. ⌜ ComponentsFound states letters (now (targets .entry)) (now (work .entry)) (now (out .entry)) (now (out .exit)) r ⌝ }
 {
-    components::find_components(
-        states,
-        letters,
-        targets,
-        numbers,
-        stack,
-        starts,
-        waiting,
-        next,
-        out,
-    )
+    components::find_components(states, letters, targets, work, out)
 }
 
 // All that a state of a system in an array reaches, with the place that each state was met from and the letter.

@@ -15,22 +15,8 @@ pub(crate) fn find_homes(n: usize, m: usize, targets: &[u16], homes: &mut [u16])
     requires { ⌜ (n ≤ maxStates) × (m ≤ maxLetters) × (n * m ≤ length (now targets)) × (n ≤ length (now homes)) ⌝ }
     ensures { λ _. ⌜ now (homes .exit) ≡ over (tabulate n 0 (componentOf (paritySystem n m (now (targets .entry))))) (now (homes .entry)) ⌝ }
 {
-    let mut numbers = [0; MAX_STATES as usize];
-    let mut stack = [0; MAX_STATES as usize];
-    let mut starts = [0; MAX_STATES as usize];
-    let mut waiting = [0; MAX_STATES as usize];
-    let mut next = [0; MAX_STATES as usize];
-    find_components(
-        n,
-        m,
-        targets,
-        &mut numbers,
-        &mut stack,
-        &mut starts,
-        &mut waiting,
-        &mut next,
-        homes,
-    );
+    let mut work = [0; 5 * MAX_STATES as usize];
+    find_components(n, m, targets, &mut work, homes);
 }
 
 // The first n entries as bytes.

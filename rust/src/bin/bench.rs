@@ -1221,7 +1221,7 @@ fn part_d(random: &mut Random, effort: Effort) {
         for letters in [2, 16] {
             for states in [64, 250, 1_000] {
                 let targets = systems::targets(random, shape, states, letters);
-                let mut work = calls::Work::new(states, 0);
+                let mut work = vec![0; 5 * states];
                 let mut tarjan = tuned::Tarjan::new(states);
                 let mut out = vec![0; states];
                 let found = calls::find_components_of_system(
