@@ -131,7 +131,8 @@ bool duckbullion_find_components_of_system(size_t states, size_t letters,
  * All that a state reaches, by a breadth-first search. Result: how many states are reached, from itself included; 0 where
  * m is above 256, from is no state, or sizes or arrays do not fit as above, and then nothing is written.
  * Afterwards numbers has for each state its place in the queue plus 1, or 0 where it is not reached; queue has for each
- * place the state, parents the place that it was met from, an earlier one, and by the letter. Place 0 is from.
+ * place the state, parents the place that it was met from, an earlier one, and by the letter. Place 0 is from. Entries of
+ * numbers past the states, and of the other arrays past the places, are untouched.
  */
 size_t duckbullion_find_reached(size_t states, size_t letters,
                                 const uint16_t *targets, size_t targets_length,

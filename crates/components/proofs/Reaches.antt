@@ -1,7 +1,9 @@
 -- A search from one state on, for any system and whatever the arrays are.
 --     reached-start, reached-old, reached-new, reached-row     the first state; one letter more, to a state that is met or not; all letters of a state
 --     reached-path       a path leads to every state that is met, with fewer letters than its number
---     ReachSizes, reach-room-kept, Reaching, reaching-none, reaching-more, reached-own     the search underway
+--     untouched-none, untouched-then, untouched-cleared     entries past the states that are met: nothing is written, one writing after another,
+--                        the numbers are cleared
+--     Reaching, reach-room-kept, reaching-none, reaching-more, reached-own     the search underway
 --     LeadsOn, Leading, leading-none, leading-more, leading-all     a path written from its end
 --     reached-exact      when all letters are read, what is met is what is reached
 use mathlib.Core.Path.{_≡_, refl, sym, ap, _∙_}
@@ -15,11 +17,13 @@ use lib.Dec.{eqb, ltb}
 use lib.ListN.{length, take, drop, set, length-append}
 use lib.Seq.{drop-cons, drop-length, drop-set-lt, getD-set-same, lt-length-set, take-set-le, take-take}
 use borrow.Author.Tests.{eqb-true, lt-ltb}
+use Rattle.rules.specs.Arrays.{Cleared}
 use Rattle.rules.specs.Systems.{System, reaches, Path, here, step}
 use Rattle.rules.proofs.Bools.{by, clash}
+use Rattle.rules.proofs.Filling.{beyond-none, beyond-then, beyond-wider}
 use Rattle.rules.proofs.Reach.{path-append, path-reaches, reaches-view}
 use Rattle.components.specs.Places.{at, Put}
-use Rattle.components.specs.Reaches.{Came, Reached, ReachRoom}
+use Rattle.components.specs.Reaches.{Came, Reached, ReachRoom, Untouched, ReadSays}
 use Rattle.components.specs.Calls.{PathFound}
 use Rattle.components.proofs.Reaching.{kept-along}
 use Rattle.components.proofs.Searches.{same-or, room}
@@ -158,34 +162,49 @@ module _ (s : System) (from c k a : ℕ) (number queue parent letter : ℕ → �
           (t, rw e at (x .closed (number y - 1) b (omega (arith, x .low y (h .0), h .1)) lb (rw e t)))
 
 -- ---- the search underway, since its arrays were as those without a mark
-pub record ReachSizes (numbers numbers′ queue queue′ parents parents′ letters letters′ : List ℕ) : Type 0 where
-  pub number-size : length numbers′ ≡ length numbers
-  pub queue-size : length queue′ ≡ length queue
-  pub parent-size : length parents′ ≡ length parents
-  pub letter-size : length letters′ ≡ length letters
-
 pub record Reaching (s : System) (from c k a : ℕ) (targets numbers numbers′ queue queue′ parents parents′ letters letters′ : List ℕ) : Type 0 where
   pub reached : Reached s from c k a (at numbers′) (at queue′) (at parents′) (at letters′)
   pub room : ReachRoom s targets numbers′ queue′ parents′ letters′
-  pub sizes : ReachSizes numbers numbers′ queue queue′ parents parents′ letters letters′
+  pub untouched : Untouched (s .states) c numbers numbers′ queue queue′ parents parents′ letters letters′
 
-pub reach-room-kept : (s : System) (targets numbers numbers′ queue queue′ parents parents′ letters letters′ : List ℕ) → ReachRoom s targets numbers queue parents letters
-    → ReachSizes numbers numbers′ queue queue′ parents parents′ letters letters′ → ReachRoom s targets numbers′ queue′ parents′ letters′
-reach-room-kept s targets numbers numbers′ queue queue′ parents parents′ letters letters′ r z =
+pub untouched-none : (n c : ℕ) (numbers queue parents letters : List ℕ) → Untouched n c numbers numbers queue queue parents parents letters letters
+untouched-none n c numbers queue parents letters =
+    record { past-numbers = beyond-none n numbers; past-queue = beyond-none c queue; past-parents = beyond-none c parents; past-letters = beyond-none c letters }
+
+pub untouched-then : {n c c′ : ℕ} {numbers numbers′ numbers″ queue queue′ queue″ parents parents′ parents″ letters letters′ letters″ : List ℕ} → c ≤ c′
+    → Untouched n c numbers numbers′ queue queue′ parents parents′ letters letters′ → Untouched n c′ numbers′ numbers″ queue′ queue″ parents′ parents″ letters′ letters″
+    → Untouched n c′ numbers numbers″ queue queue″ parents parents″ letters letters″
+untouched-then l x y =
+    record {
+      past-numbers = beyond-then (x .past-numbers) (y .past-numbers);
+      past-queue = beyond-then (beyond-wider l (x .past-queue)) (y .past-queue);
+      past-parents = beyond-then (beyond-wider l (x .past-parents)) (y .past-parents);
+      past-letters = beyond-then (beyond-wider l (x .past-letters)) (y .past-letters);
+    }
+
+-- the numbers are cleared
+pub untouched-cleared : {n : ℕ} {numbers numbers′ : List ℕ} (queue parents letters : List ℕ) → Cleared 0 n numbers numbers′
+    → Untouched n 0 numbers numbers′ queue queue parents parents letters letters
+untouched-cleared queue parents letters x =
+    record { past-numbers = record { size = x .size; same = x .rest }; past-queue = beyond-none 0 queue; past-parents = beyond-none 0 parents; past-letters = beyond-none 0 letters }
+
+pub reach-room-kept : (s : System) (c : ℕ) (targets numbers numbers′ queue queue′ parents parents′ letters letters′ : List ℕ) → ReachRoom s targets numbers queue parents letters
+    → Untouched (s .states) c numbers numbers′ queue queue′ parents parents′ letters letters′ → ReachRoom s targets numbers′ queue′ parents′ letters′
+reach-room-kept s c targets numbers numbers′ queue queue′ parents parents′ letters letters′ r u =
     record {
       small = r .small;
       letters-small = r .letters-small;
       cell-room = r .cell-room;
-      number-room = omega (arith, r .number-room, z .number-size);
-      queue-room = omega (arith, r .queue-room, z .queue-size);
-      parent-room = omega (arith, r .parent-room, z .parent-size);
-      letter-room = omega (arith, r .letter-room, z .letter-size);
+      number-room = rw (u .past-numbers .size) (r .number-room);
+      queue-room = rw (u .past-queue .size) (r .queue-room);
+      parent-room = rw (u .past-parents .size) (r .parent-room);
+      letter-room = rw (u .past-letters .size) (r .letter-room);
     }
 
 pub reaching-none : (s : System) (from c k a : ℕ) (targets numbers queue parents letters : List ℕ) → Reached s from c k a (at numbers) (at queue) (at parents) (at letters)
     → ReachRoom s targets numbers queue parents letters → Reaching s from c k a targets numbers numbers queue queue parents parents letters letters
 reaching-none s from c k a targets numbers queue parents letters x r =
-    record { reached = x; room = r; sizes = record { number-size = refl; queue-size = refl; parent-size = refl; letter-size = refl } }
+    record { reached = x; room = r; untouched = untouched-none (s .states) c numbers queue parents letters }
 
 -- the first state of the queue is that from which the search goes
 pub reached-own : (s : System) (from c k a : ℕ) (number queue parent letter : ℕ → ℕ) → Reached s from c k a number queue parent letter
@@ -197,15 +216,14 @@ reached-own s from c k a number queue parent letter x = let e : from ≡ queue 0
 
 module _ (s : System) (from c k a c′ k′ a′ : ℕ) (targets numbers numbers′ numbers″ queue queue′ queue″ parents parents′ parents″ letters letters′ letters″ : List ℕ)
     (x : Reaching s from c k a targets numbers numbers′ queue queue′ parents parents′ letters letters′)
-    (z : ReachSizes numbers′ numbers″ queue′ queue″ parents′ parents″ letters′ letters″)
-    (y : Reached s (at queue′ 0) c′ k′ a′ (at numbers″) (at queue″) (at parents″) (at letters″))
+    (y : ReadSays s c c′ k′ a′ numbers′ numbers″ queue′ queue″ parents′ parents″ letters′ letters″)
   where
     pub reaching-more : Reaching s from c′ k′ a′ targets numbers numbers″ queue queue″ parents parents″ letters letters″
     reaching-more =
         record {
-          reached = rw (x .reached .first) at y;
-          room = reach-room-kept s targets _ _ _ _ _ _ _ _ (x .room) z;
-          sizes = record { number-size = z .number-size ∙ x .sizes .number-size; queue-size = z .queue-size ∙ x .sizes .queue-size; parent-size = z .parent-size ∙ x .sizes .parent-size; letter-size = z .letter-size ∙ x .sizes .letter-size };
+          reached = rw (x .reached .first) at (y .reached);
+          room = reach-room-kept s c′ targets _ _ _ _ _ _ _ _ (x .room) (y .untouched);
+          untouched = untouched-then (y .more) (x .untouched) (y .untouched);
         }
 
 -- ---- a path written from its end

@@ -3,7 +3,8 @@
 --     componentsFit n m ..     a search for components can begin: sizes, targets, five entries for each state to work in, and room for the results
 --     ComponentsFound n m ..   the smallest state of each state's component at the front of `out`, entries past the states untouched
 --     reachFits n m ..         a search from a state can begin
---     ReachFound n m from ..   exactly the states that `from` reaches are met, each with the place that it was met from and the letter
+--     ReachFound n m from ..   exactly the states that `from` reaches are met, each with the place that it was met from and the letter;
+--                              entries past the states, and past those met, untouched
 --     PathFound place ..       where a search has left parents and letters: the end of `out`, from the result on, is a path to the state at the place
 use mathlib.Core.Path.{_≡_}
 use mathlib.Core.Bool.{Bool, true, false, _&&_}
@@ -17,7 +18,7 @@ use Rattle.rules.specs.Says.{over}
 use Rattle.rules.specs.Systems.{System, Path, componentOf}
 use Rattle.components.specs.Places.{at}
 use Rattle.components.specs.Searching.{doneNumber}
-use Rattle.components.specs.Reaches.{Reached, ReachSays}
+use Rattle.components.specs.Reaches.{Reached, Untouched, ReachSays}
 
 abbrev pub cellsFit : ℕ → ℕ → ℕ → Bool
 cellsFit n m t = ltb n doneNumber && (ltb m doneNumber && leb (n * m) t)
@@ -37,6 +38,7 @@ pub record ReachFound (n m from : ℕ) (targets numbers numbers′ queue queue�
   pub unfit : reachFits n m from targets numbers queue parents by ≡ false
       → (r ≡ 0) × (numbers′ ≡ numbers) × (queue′ ≡ queue) × (parents′ ≡ parents) × (by′ ≡ by)
   pub found : reachFits n m from targets numbers queue parents by ≡ true → ReachSays (paritySystem n m targets) from r numbers′ queue′ parents′ by′
+  pub untouched : Untouched n r numbers numbers′ queue queue′ parents parents′ by by′
 
 pub record PathFound (place : ℕ) (parents by out out′ : List ℕ) (r : ℕ) : Type 0 where
   pub within : r ≤ length out

@@ -9,7 +9,7 @@ mod reach;
 ghost use mathlib.Core.Path.{_≡_};
 ghost use Prim.Native.Nat.{ℕ, _<_, _≤_};
 ghost use lib.ListN.{length};
-ghost use Rattle.components.specs.Places.{at};
+ghost use Rattle.rules.specs.Arrays.{Cleared};
 ghost use Rattle.components.specs.Calls.{cellsFit, ComponentsFound, ReachFound, PathFound};
 
 // The sizes are small enough, and there is a target for each cell.
@@ -25,7 +25,7 @@ fn cells_fit(states: usize, letters: usize, cells: usize) -> bool
 // Clears the first n entries.
 fn clear(n: usize, array: &mut [u16])
     requires { ⌜ n ≤ length (now array) ⌝ }
-    ensures { λ _. ⌜ ((q : ℕ) → q < n → at (now (array .exit)) q ≡ 0) ⌝ }
+    ensures { λ _. ⌜ Cleared 0 n (now (array .entry)) (now (array .exit)) ⌝ }
 {
     let mut q = 0;
     // the entries below q are cleared
@@ -57,7 +57,7 @@ pub fn find_components(
 }
 
 // All that a state reaches: how many states are met, and in the arrays for each state its place plus 1, or 0 where it is not reached, and
-// for each place the state, the place that it was met from and the letter. 0 where the sizes or an array do not fit.
+// for each place the state, the place that it was met from and the letter, entries past these untouched. 0 where the sizes or an array do not fit.
 pub fn find_reached(
     states: usize,
     letters: usize,

@@ -1,10 +1,10 @@
 // A search from one state on: states stand in a queue as they are met, each with the place of the state that led there and the letter.
 use crate::cells::target_at;
 ghost use mathlib.Core.Path.{_≡_};
-ghost use Prim.Native.Nat.{ℕ, _+_, _*_, _<_, _≤_};
+ghost use Prim.Native.Nat.{ℕ, _+_, _<_};
 ghost use Rattle.rules.specs.Judges.{paritySystem};
 ghost use Rattle.components.specs.Places.{at};
-ghost use Rattle.components.specs.Reaches.{Reached, ReachRoom, ReachSays};
+ghost use Rattle.components.specs.Reaches.{Reached, ReachRoom, Untouched, ReadSays, ReachSays};
 
 // Reads letter a of the state at place k, and gives how many states are met then.
 fn read_letter(
@@ -21,7 +21,7 @@ fn read_letter(
     by: &mut [u8],
 ) -> usize
     requires { ⌜ ReachRoom (paritySystem n m (now targets)) (now targets) (now numbers) (now queue) (now parents) (now by) × Reached (paritySystem n m (now targets)) (at (now queue) 0) count k a (at (now numbers)) (at (now queue)) (at (now parents)) (at (now by)) × (k < count) × (a < m) × (target ≡ paritySystem n m (now targets) .go (at (now queue) k) a) ⌝ }
-    ensures { λ r. ⌜ Reached (paritySystem n m (now (targets .entry))) (at (now (queue .entry)) 0) r k (a + 1) (at (now (numbers .exit))) (at (now (queue .exit))) (at (now (parents .exit))) (at (now (by .exit))) × (count ≤ r) × (at (now (queue .exit)) k ≡ at (now (queue .entry)) k) ⌝ }
+    ensures { λ r. ⌜ ReadSays (paritySystem n m (now (targets .entry))) count r k (a + 1) (now (numbers .entry)) (now (numbers .exit)) (now (queue .entry)) (now (queue .exit)) (now (parents .entry)) (now (parents .exit)) (now (by .entry)) (now (by .exit)) × (at (now (queue .exit)) k ≡ at (now (queue .entry)) k) ⌝ }
 {
     if n <= target {
         return count;
@@ -49,7 +49,7 @@ fn read_state(
     by: &mut [u8],
 ) -> usize
     requires { ⌜ ReachRoom (paritySystem n m (now targets)) (now targets) (now numbers) (now queue) (now parents) (now by) × Reached (paritySystem n m (now targets)) (at (now queue) 0) count k 0 (at (now numbers)) (at (now queue)) (at (now parents)) (at (now by)) × (k < count) ⌝ }
-    ensures { λ r. ⌜ Reached (paritySystem n m (now (targets .entry))) (at (now (queue .entry)) 0) r (k + 1) 0 (at (now (numbers .exit))) (at (now (queue .exit))) (at (now (parents .exit))) (at (now (by .exit))) × (count ≤ r) ⌝ }
+    ensures { λ r. ⌜ ReadSays (paritySystem n m (now (targets .entry))) count r (k + 1) 0 (now (numbers .entry)) (now (numbers .exit)) (now (queue .entry)) (now (queue .exit)) (now (parents .entry)) (now (parents .exit)) (now (by .entry)) (now (by .exit)) ⌝ }
 {
     let first = queue[k] as usize * m;
     let mut met = count;
@@ -87,7 +87,7 @@ pub(crate) fn reach_from(
     by: &mut [u8],
 ) -> usize
     requires { ⌜ ReachRoom (paritySystem n m (now targets)) (now targets) (now numbers) (now queue) (now parents) (now by) × (from < n) × ((q : ℕ) → q < n → at (now numbers) q ≡ 0) ⌝ }
-    ensures { λ r. ⌜ ReachSays (paritySystem n m (now (targets .entry))) from r (now (numbers .exit)) (now (queue .exit)) (now (parents .exit)) (now (by .exit)) ⌝ }
+    ensures { λ r. ⌜ ReachSays (paritySystem n m (now (targets .entry))) from r (now (numbers .exit)) (now (queue .exit)) (now (parents .exit)) (now (by .exit)) × Untouched n r (now (numbers .entry)) (now (numbers .exit)) (now (queue .entry)) (now (queue .exit)) (now (parents .entry)) (now (parents .exit)) (now (by .entry)) (now (by .exit)) ⌝ }
 {
     numbers[from] = 1;
     queue[0] = from as u16;

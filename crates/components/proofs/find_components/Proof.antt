@@ -30,7 +30,7 @@ returns c =
     record { answer = sym (not-true _ (c .if1 .taken)) ∙ components-tested (a .states) (a .letters) (a .targets .now) (a .work .now) (a .out .now) _ (c .before .cells-fit .ensures); array = refl }
 
 search-all-requires : tie.Need-search-all-requires
-search-all-requires c κs = let x = c .before .before .before .before .clear in (room-kept _ _ _ _ _ _ (room (c .before .before .before .before .before .before)) (x .kept .1 .0) refl, x .ensures)
+search-all-requires c κs = let x = c .before .before .before .before .clear in (room-kept _ _ _ _ _ _ (room (c .before .before .before .before .before .before)) (x .ensures .size) refl, λ i l. x .ensures .zeros i (omega arith) l)
 
 returns-2 : tie.Need-returns-2
 returns-2 c = record { answer = sym (fits (c .before .before .before .before .before .before .before .before .before .before .before)); array = c .before .before .before .before .search-all .ensures }

@@ -3,12 +3,13 @@ use borrow.Author.Needs.{needs}
 use mathlib.Core.Path.{_≡_, refl, sym, _∙_}
 use mathlib.Core.Bool.{true}
 use Prim.Native.Nat.{_<_}
+use native.Mathlib.Omega.{arith}
 use borrow.Author.Tests.{not-true, not-false}
 use Rattle.rules.specs.Judges.{paritySystem}
 use Rattle.rules.proofs.Bools.{clash}
 use Rattle.components.specs.Reaches.{ReachRoom}
 use Rattle.components.specs.Calls.{reachFits}
-use Rattle.components.proofs.Reaches.{reach-room-kept}
+use Rattle.components.proofs.Reaches.{untouched-none, untouched-then, untouched-cleared, reach-room-kept}
 use Rattle.components.proofs.Fits.{reach-room, reach-tested}
 use Rattle.components.proofs.find_reached.Statement.{statement}
 use Rattle.components.proofs.find_reached.Tie as tie
@@ -30,16 +31,19 @@ returns : tie.Need-returns
 returns c =
     let a = c .before .before .before .before .before .before .before .args in
     let t = sym (reach-tested (a .states) (a .letters) (a .from) (a .targets .now) (a .numbers .now) (a .queue .now) (a .parents .now) (a .by .now) _ (c .before .cells-fit .ensures)) ∙ not-true _ (c .if1 .taken) in
-    record { unfit = λ e. (refl, refl, refl, refl, refl); found = λ e. clash e t }
+    record { unfit = λ e. (refl, refl, refl, refl, refl); found = λ e. clash e t; untouched = untouched-none _ _ _ _ _ _ }
 
 reach-from-requires : tie.Need-reach-from-requires
 reach-from-requires c κs =
     let e : tie.Else1 = c .before .before .before .before .before .before .before .before in
     let x = c .before .before .before .before .before .before .clear in
-    (reach-room-kept _ _ _ _ _ _ _ _ _ _ (room e .0) (record { number-size = x .kept .1 .0; queue-size = refl; parent-size = refl; letter-size = refl }), room e .1, x .ensures)
+    (reach-room-kept _ 0 _ _ _ _ _ _ _ _ _ (room e .0) (untouched-cleared _ _ _ (x .ensures)), room e .1, λ q l. x .ensures .zeros q (omega arith) l)
 
 returns-2 : tie.Need-returns-2
-returns-2 c = record { unfit = λ e. clash (fits (c .before .before .before .before .before .before .before .before .before .before .before .before .before .before .before .before .before)) e; found = λ e. c .before .before .before .before .before .before .before .before .reach-from .ensures }
+returns-2 c =
+    let r = c .before .before .before .before .before .before .before .before .reach-from .ensures in
+    let x = c .before .before .before .before .before .before .before .before .before .before .before .before .before .before .before .clear .ensures in
+    record { unfit = λ e. clash (fits (c .before .before .before .before .before .before .before .before .before .before .before .before .before .before .before .before .before)) e; found = λ e. r .0; untouched = untouched-then (omega arith) (untouched-cleared _ _ _ x) (r .1) }
 
 pub find-reached-spec : {M : Type 1} → statement M
 find-reached-spec =

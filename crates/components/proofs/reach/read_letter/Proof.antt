@@ -7,10 +7,12 @@ use lib.Seq.{getD-set-other}
 use native.Mathlib.Numerals.{add-one}
 use Rattle.rules.specs.Judges.{paritySystem}
 use Rattle.rules.specs.Systems.{System}
+use Rattle.rules.proofs.Filling.{beyond-set}
 use Rattle.components.specs.Places.{at}
+use Rattle.components.specs.Reaches.{ReadSays}
 use Rattle.components.proofs.Stores.{put-set}
 use Rattle.components.proofs.Searches.{room}
-use Rattle.components.proofs.Reaches.{reached-old, reached-new}
+use Rattle.components.proofs.Reaches.{untouched-none, reached-old, reached-new}
 use Rattle.components.proofs.Stores.{put-as}
 use Rattle.components.proofs.reach.read_letter.Statement.{statement}
 use Rattle.components.proofs.reach.read_letter.Tie as tie
@@ -32,11 +34,20 @@ module _ (c : tie.Else2) where
   has-room : s .args .count < s .args .n
   has-room = room _ _ _ _ (s .pre .1 .places) _ fresh-state fresh-number
 
+-- the letter leads to no state that is not yet met
+module _ (s : tie.Start) where
+  abbrev go : System
+  go = paritySystem (s .args .n) (s .args .m) (s .args .targets .now)
+
+  same : (go .go (at (s .args .queue .now) (s .args .k)) (s .args .a) < s .args .n → 0 < at (s .args .numbers .now) (go .go (at (s .args .queue .now) (s .args .k)) (s .args .a)))
+      → ReadSays go (s .args .count) (s .args .count) (s .args .k) (s .args .a + 1) (s .args .numbers .now) (s .args .numbers .now) (s .args .queue .now) (s .args .queue .now) (s .args .parents .now) (s .args .parents .now) (s .args .by .now) (s .args .by .now)
+  same h = record { reached = reached-old _ _ _ _ _ _ _ _ _ (s .pre .1) h; more = omega arith; untouched = untouched-none _ _ _ _ _ _ }
+
 returns : tie.Need-returns
-returns c = let s = c .before in (reached-old _ _ _ _ _ _ _ _ _ (s .pre .1) (λ t. absurd (omega (arith, c .if1 .taken, s .pre .4))), omega arith, refl)
+returns c = let s = c .before in (same s (λ t. absurd (omega (arith, c .if1 .taken, s .pre .4))), refl)
 
 returns-2 : tie.Need-returns-2
-returns-2 c = let s = c .before .before .before in (reached-old _ _ _ _ _ _ _ _ _ (s .pre .1) (λ t. let n : (at (s .args .numbers .now) (s .args .target) ≡ 0) → ⊥ = c .if2 .taken in let g : 0 < at (s .args .numbers .now) (s .args .target) = omega arith in rw (s .pre .4) at g), omega arith, refl)
+returns-2 c = let s = c .before .before .before in (same s (λ t. let n : (at (s .args .numbers .now) (s .args .target) ≡ 0) → ⊥ = c .if2 .taken in let g : 0 < at (s .args .numbers .now) (s .args .target) = omega arith in rw (s .pre .4) at g), refl)
 
 slice-write-queue : tie.Need-slice-write-queue
 slice-write-queue c = omega (arith, has-room c, s c .pre .0 .queue-room)
@@ -52,12 +63,20 @@ returns-3 c = let a = s c .args in
     let r = s c .pre .0 in
     let e = s c .pre .4 in
     let l = has-room c in (
-      reached-new _ _ _ _ _ _ _ _ _ (s c .pre .1) (s c .pre .2) (s c .pre .3) (fresh-state c) (fresh-number c) _ _ _ _
-          (put-as _ _ _ _ _ _ e (add-one (a .count)) (put-set (a .numbers .now) (a .target) (a .count + 1) (omega (arith, c .before .before .if1 .left, r .number-room))))
-          (put-as _ _ _ _ _ _ refl e (put-set (a .queue .now) (a .count) (a .target) (omega (arith, r .queue-room))))
-          (put-set (a .parents .now) (a .count) (a .k) (omega (arith, r .parent-room)))
-          (put-set (a .by .now) (a .count) (a .a) (omega (arith, r .letter-room))),
-      omega arith,
+      record {
+        reached = reached-new _ _ _ _ _ _ _ _ _ (s c .pre .1) (s c .pre .2) (s c .pre .3) (fresh-state c) (fresh-number c) _ _ _ _
+            (put-as _ _ _ _ _ _ e (add-one (a .count)) (put-set (a .numbers .now) (a .target) (a .count + 1) (omega (arith, c .before .before .if1 .left, r .number-room))))
+            (put-as _ _ _ _ _ _ refl e (put-set (a .queue .now) (a .count) (a .target) (omega (arith, r .queue-room))))
+            (put-set (a .parents .now) (a .count) (a .k) (omega (arith, r .parent-room)))
+            (put-set (a .by .now) (a .count) (a .a) (omega (arith, r .letter-room)));
+        more = omega arith;
+        untouched = record {
+          past-numbers = beyond-set _ (a .numbers .now) (a .target) (a .count + 1) (c .before .before .if1 .left);
+          past-queue = beyond-set _ (a .queue .now) (a .count) (a .target) (omega arith);
+          past-parents = beyond-set _ (a .parents .now) (a .count) (a .k) (omega arith);
+          past-letters = beyond-set _ (a .by .now) (a .count) (a .a) (omega arith);
+        };
+      },
       getD-set-other (a .queue .now) (a .count) (a .k) (a .target) 0 (λ z. omega (arith, s c .pre .2)),
     )
 

@@ -73,17 +73,17 @@ loop-again c =
     let r = c .before .before .before .before .before .before .before .before .read-letter in
     let t = c .before .before .before .before .before .before .before .before .before .before .before .before .before .before .before .loop .inv in
     let u = c .before .before .before .before .before .before .before .before .before .before .before .before .before .before .loop-test .taken in
-    (omega arith, omega (arith, t .1, r .ensures .1), r .ensures .2 ∙ t .2, reaching-more _ _ _ _ _ _ _ _ _ _ _ _ _ _ _ _ _ _ _ _ _ (t .3) (record { number-size = r .kept .1 .1 .1 .1 .1 .1 .1 .0; queue-size = r .kept .1 .1 .1 .1 .1 .1 .1 .1 .0; parent-size = r .kept .1 .1 .1 .1 .1 .1 .1 .1 .1 .0; letter-size = r .kept .1 .1 .1 .1 .1 .1 .1 .1 .1 .1 .0 }) (r .ensures .0))
+    (omega arith, omega (arith, t .1, r .ensures .0 .more), r .ensures .1 ∙ t .2, reaching-more _ _ _ _ _ _ _ _ _ _ _ _ _ _ _ _ _ _ _ _ _ (t .3) (r .ensures .0))
 
 returns : tie.Need-returns Inv-loop μ-loop
 returns c =
     let t = c .before .loop .inv in
-    (reached-row _ _ _ _ _ _ _ _ _ (t .3 .reached) (c .loop-test .left), t .1)
+    record { reached = reached-row _ _ _ _ _ _ _ _ _ (t .3 .reached) (c .loop-test .left); more = t .1; untouched = t .3 .untouched }
 
 pub read-state-spec : {M : Type 1} → statement M
 read-state-spec =
     tie.close
     (tie.spec Inv-loop μ-loop mul-first slice-read-first cast-first mul-first-2 loop-holds (λ c. omega (arith, within c)) (λ c κs. within c)
-    read-letter-requires add-a loop-less loop-again (λ c. c .before .loop .inv .3 .sizes .number-size)
-    (λ c. c .before .loop .inv .3 .sizes .queue-size) (λ c. c .before .loop .inv .3 .sizes .parent-size)
-    (λ c. c .before .loop .inv .3 .sizes .letter-size) returns)
+    read-letter-requires add-a loop-less loop-again (λ c. c .before .loop .inv .3 .untouched .past-numbers .size)
+    (λ c. c .before .loop .inv .3 .untouched .past-queue .size) (λ c. c .before .loop .inv .3 .untouched .past-parents .size)
+    (λ c. c .before .loop .inv .3 .untouched .past-letters .size) returns)
