@@ -22,12 +22,13 @@ cells-fit n m t h =
     let b = and-parts (ltb m doneNumber) (leb (n * m) t) (a .1) in
     (ltb-true n doneNumber (a .0), ltb-true m doneNumber (b .0), leb-true (n * m) t (b .1))
 
-pub components-room : (n m : ℕ) (targets work out : List ℕ) → componentsFit n m targets work out ≡ true → Room (paritySystem n m targets) targets work out
+pub components-room : (n m : ℕ) (targets work out : List ℕ) → componentsFit n m targets work out ≡ true
+    → Room (paritySystem n m targets) targets work × (n ≤ length out)
 components-room n m targets work out h =
     let a = and-parts (cellsFit n m (length targets)) (leb (5 * n) (length work) && leb n (length out)) h in
     let b = and-parts (leb (5 * n) (length work)) (leb n (length out)) (a .1) in
     let c = cells-fit n m (length targets) (a .0) in
-    record { small = c .0; letters-small = c .1; cell-room = c .2; work-room = leb-true (5 * n) (length work) (b .0); out-room = leb-true n (length out) (b .1) }
+    (record { small = c .0; letters-small = c .1; cell-room = c .2; work-room = leb-true (5 * n) (length work) (b .0) }, leb-true n (length out) (b .1))
 
 -- the test that the code makes: five entries for each state, without a product that could wrap
 pub components-tested : (n m : ℕ) (targets work out : List ℕ) (b : Bool) → b ≡ cellsFit n m (length targets)

@@ -17,7 +17,7 @@ use lib.ListN.{length, set}
 use lib.Seq.{getD-take}
 use Rattle.rules.specs.Systems.{System, reaches, componentOf}
 use Rattle.components.specs.Places.{at, part, Put}
-use Rattle.components.specs.Searching.{doneNumber, numbersIn, stackIn, startsIn, waitingIn, nextIn, Letters, Searched, SearchedIn, Read, Scanned, Entered, Smallest, Settled, Room, TurnSays}
+use Rattle.components.specs.Searching.{doneNumber, numbersIn, stackIn, startsIn, waitingIn, nextIn, Letters, Searched, SearchedIn, Read, Scanned, Entered, Closed, Room, TurnSays}
 use Rattle.components.proofs.Reaching.{reaches-trans, reaches-step}
 use Rattle.components.proofs.Stores.{put-set, part-at, part-length, part-here, part-other, part-behind}
 use Rattle.components.proofs.Searches.{same-or, parts-few, waiting-few, back, starts-below, read-more, enter, leave, grown, settle}
@@ -38,7 +38,7 @@ module _ (s : System) (q v : ℕ) (work : List ℕ) where
       let n = s .states in
       record { searched = rw (next-kept 0 (omega arith), next-kept n (omega arith), next-kept (2 * n) (omega arith), next-kept (3 * n) (omega arith), part-here n (4 * n) q v work lq) x }
 
-module _ (s : System) (c p l q : ℕ) (targets work outs : List ℕ) (room : Room s targets work outs) (x : SearchedIn s c p l work outs)
+module _ (s : System) (c p l q : ℕ) (targets work outs : List ℕ) (room : Room s targets work) (x : SearchedIn s c p l work outs)
     (some : 0 < l) (is-last : at (waitingIn (s .states) work) (l - 1) ≡ q)
     (in-last : at (startsIn (s .states) work) (p - 1) < at (numbersIn (s .states) work) q)
   where
@@ -159,7 +159,7 @@ module _ (s : System) (c p l q : ℕ) (targets work outs : List ℕ) (room : Roo
             }
 
 -- the last part is a component
-module _ (s : System) (c p l r : ℕ) (targets work work′ outs outs′ : List ℕ) (room : Room s targets work outs) (x : SearchedIn s c p l work outs)
+module _ (s : System) (c p l : ℕ) (targets work work′ outs outs′ : List ℕ) (room : Room s targets work) (x : SearchedIn s c p l work outs)
     (some : 0 < p) (quiet : (j : ℕ) → j < l → at (numbersIn (s .states) work) (at (waitingIn (s .states) work) j) ≤ at (startsIn (s .states) work) (p - 1))
   where
     abbrev from : ℕ
@@ -168,19 +168,19 @@ module _ (s : System) (c p l r : ℕ) (targets work work′ outs outs′ : List 
     whole : Searched s c (suc (p - 1)) l (at (numbersIn (s .states) work)) (at (stackIn (s .states) work)) (at (startsIn (s .states) work)) (at (waitingIn (s .states) work)) (at (nextIn (s .states) work)) (at outs)
     whole = let e : suc (p - 1) ≡ p = omega arith in rw e (x .searched)
 
-    pub turn-settled : (f : ℕ) → f ≡ from → Smallest (at (stackIn (s .states) work)) f c r → Settled (s .states) r f c work work′ outs outs′
-        → TurnSays s c p l f (p - 1) l work work′ outs outs′
-    turn-settled f e m st = rw e (settled (rw e at m) (rw e at st))
+    pub turn-settled : (f : ℕ) → f ≡ from → Closed (s .states) f c work work′ outs outs′ → TurnSays s c p l f (p - 1) l work work′ outs outs′
+    turn-settled f e h = rw e (closed (rw e at h))
       where
-        settled : Smallest (at (stackIn (s .states) work)) from c r → Settled (s .states) r from c work work′ outs outs′ → TurnSays s c p l from (p - 1) l work work′ outs outs′
-        settled m st =
+        closed : Closed (s .states) from c work work′ outs outs′ → TurnSays s c p l from (p - 1) l work work′ outs outs′
+        closed h =
             let n = s .states in
+            let st = h .settled in
             let behind : (k : ℕ) → n ≤ k → part n k work′ ≡ part n k work = λ k h. part-behind n k work′ work (st .parts-kept) h in
             record {
-              after = record { searched = rw (behind n (omega arith), behind (2 * n) (omega arith), behind (3 * n) (omega arith), behind (4 * n) (omega arith)) (settle s c (p - 1) l _ _ _ _ _ _ whole (room .small) quiet r m (at (numbersIn n work′)) (at outs′) (st .number) (st .out) (st .number-others) (st .out-others)) };
+              after = record { searched = rw (behind n (omega arith), behind (2 * n) (omega arith), behind (3 * n) (omega arith), behind (4 * n) (omega arith)) (settle s c (p - 1) l _ _ _ _ _ _ whole (room .small) quiet (h .label) (h .smallest) (at (numbersIn n work′)) (at outs′) (st .number) (st .out) (st .number-others) (st .out-others)) };
               less = omega (arith, st .fewer);
-              rest = λ i h. st .out-others i (λ j f u e. omega (arith, x .searched .places .state j u));
-              met = λ q h z. omega (arith, grown s c (p - 1) l _ _ _ _ _ _ whole (room .small) quiet r m (at (numbersIn n work′)) (at outs′) (st .number) (st .out) (st .number-others) (st .out-others) q h);
+              rest = λ i b. st .out-others i (λ j f u e. omega (arith, x .searched .places .state j u));
+              met = λ q b z. omega (arith, grown s c (p - 1) l _ _ _ _ _ _ whole (room .small) quiet (h .label) (h .smallest) (at (numbersIn n work′)) (at outs′) (st .number) (st .out) (st .number-others) (st .out-others) q b);
             }
 
 -- nothing waits beyond what waits last
@@ -190,21 +190,19 @@ quiet-below s c p l v number start waiting next x h j b =
     same-or j (l - 1) (λ e. rw e h) (λ d. omega (arith, x .order j (l - 1) (omega arith) (omega arith)))
 
 -- ---- the whole search
-pub room-kept : (s : System) (targets work work′ outs outs′ : List ℕ) → Room s targets work outs → length work′ ≡ length work → length outs′ ≡ length outs
-    → Room s targets work′ outs′
-room-kept s targets work work′ outs outs′ r e d =
-    record { small = r .small; letters-small = r .letters-small; cell-room = r .cell-room; work-room = rw e (r .work-room); out-room = rw d (r .out-room) }
+pub room-kept : (s : System) (targets work work′ : List ℕ) → Room s targets work → length work′ ≡ length work → Room s targets work′
+room-kept s targets work work′ r e = record { small = r .small; letters-small = r .letters-small; cell-room = r .cell-room; work-room = rw e (r .work-room) }
 
 -- a search since its arrays were as those without a mark
 pub record Underway (s : System) (c p l : ℕ) (targets work work′ outs outs′ : List ℕ) : Type 0 where
   pub now : SearchedIn s c p l work′ outs′
-  pub room : Room s targets work′ outs′
+  pub room : Room s targets work′
   pub work-size : length work′ ≡ length work
   pub out-size : length outs′ ≡ length outs
   pub rest : (i : ℕ) → s .states ≤ i → at outs′ i ≡ at outs i
   pub met : (q : ℕ) → q < s .states → 0 < at (numbersIn (s .states) work) q → 0 < at (numbersIn (s .states) work′) q
 
-pub underway-none : (s : System) (c p l : ℕ) (targets work outs : List ℕ) → SearchedIn s c p l work outs → Room s targets work outs
+pub underway-none : (s : System) (c p l : ℕ) (targets work outs : List ℕ) → SearchedIn s c p l work outs → Room s targets work
     → Underway s c p l targets work work outs outs
 underway-none s c p l targets work outs x r =
     record { now = x; room = r; work-size = refl; out-size = refl; rest = λ i h. refl; met = λ q h n. n }
@@ -219,7 +217,7 @@ module _ (s : System) (c p l c′ p′ l′ : ℕ) (targets work work′ work″
     underway-more =
         record {
           now = y;
-          room = room-kept s targets work′ work″ outs′ outs″ (x .room) e d;
+          room = room-kept s targets work′ work″ (x .room) e;
           work-size = e ∙ x .work-size;
           out-size = d ∙ x .out-size;
           rest = λ i h. rest i h ∙ x .rest i h;

@@ -5,6 +5,7 @@
 // from 2 n, the states that wait from 3 n, and the states' next letters from 4 n.
 use crate::cells::target_at;
 ghost use mathlib.Core.Path.{_≡_};
+ghost use mathlib.Core.List.{List};
 ghost use Prim.Native.Nat.{ℕ, _+_, _*_, _-_, _<_, _≤_};
 ghost use lib.ListN.{length};
 ghost use Rattle.rules.specs.Basics.{tabulate};
@@ -12,7 +13,7 @@ ghost use Rattle.rules.specs.Says.{over};
 ghost use Rattle.rules.specs.Systems.{componentOf};
 ghost use Rattle.rules.specs.Judges.{paritySystem};
 ghost use Rattle.components.specs.Places.{at, Rising};
-ghost use Rattle.components.specs.Searching.{doneNumber, numbersIn, stackIn, startsIn, waitingIn, SearchedIn, Joined, Scanned, Entered, Smallest, Settled, Room, TurnSays, SearchSays};
+ghost use Rattle.components.specs.Searching.{doneNumber, numbersIn, stackIn, startsIn, waitingIn, SearchedIn, Joined, Scanned, Entered, Smallest, Closed, Room, TurnSays, SearchSays};
 
 // The number of a state whose component is known.
 pub(crate) const DONE: u16 = 65535;
@@ -110,11 +111,12 @@ fn smallest(stack: &[u16], from: usize, to: usize) -> u16
     best
 }
 
-// Gives the states at some places their component.
-fn settle(n: usize, label: u16, from: usize, to: usize, work: &mut [u16], outs: &mut [u16])
-    requires { ⌜ (from ≤ to) × (to ≤ n) × (5 * n ≤ length (now work)) × (n ≤ length (now outs)) × ((i : ℕ) → i < to → at (stackIn n (now work)) i < n) ⌝ }
-    ensures { λ _. ⌜ Settled n label from to (now (work .entry)) (now (work .exit)) (now (outs .entry)) (now (outs .exit)) ⌝ }
+// Gives the states at some places their component: the smallest of them names it.
+fn settle(n: usize, from: usize, to: usize, work: &mut [u16], outs: &mut [u16])
+    requires { ⌜ (from < to) × (to ≤ n) × (5 * n ≤ length (now work)) × (n ≤ length (now outs)) × ((i : ℕ) → i < to → at (stackIn n (now work)) i < n) ⌝ }
+    ensures { λ _. ⌜ Closed n from to (now (work .entry)) (now (work .exit)) (now (outs .entry)) (now (outs .exit)) ⌝ }
 {
+    let label = smallest(&work[n..2 * n], from, to);
     let mut i = from;
     // the states at the places from `from` up to i have their component
     while i < to {
@@ -126,6 +128,7 @@ fn settle(n: usize, label: u16, from: usize, to: usize, work: &mut [u16], outs: 
 }
 
 // Reads on from q, which waits last and stands in the last part: up to a state that is not yet met, which is opened, or to the end.
+// The components found, whatever they are, stay as they are.
 fn extend(
     n: usize,
     m: usize,
@@ -135,10 +138,9 @@ fn extend(
     parts: usize,
     left: usize,
     work: &mut [u16],
-    outs: &[u16],
 ) -> Heights
-    requires { ⌜ Room (paritySystem n m (now targets)) (now targets) (now work) (now outs) × SearchedIn (paritySystem n m (now targets)) count parts left (now work) (now outs) × (0 < left) × (0 < parts) × (at (waitingIn n (now work)) (left - 1) ≡ q) × (at (startsIn n (now work)) (parts - 1) < at (numbersIn n (now work)) q) ⌝ }
-    ensures { λ r. ⌜ TurnSays (paritySystem n m (now (targets .entry))) count parts left (r .open) (r .parts) (r .waiting) (now (work .entry)) (now (work .exit)) (now (outs .entry)) (now (outs .entry)) ⌝ }
+    requires { ⌜ Room (paritySystem n m (now targets)) (now targets) (now work) × ((outs : List ℕ) × SearchedIn (paritySystem n m (now targets)) count parts left (now work) outs) × (0 < left) × (0 < parts) × (at (waitingIn n (now work)) (left - 1) ≡ q) × (at (startsIn n (now work)) (parts - 1) < at (numbersIn n (now work)) q) ⌝ }
+    ensures { λ r. ⌜ ((outs : List ℕ) → SearchedIn (paritySystem n m (now (targets .entry))) count parts left (now (work .entry)) outs → TurnSays (paritySystem n m (now (targets .entry))) count parts left (r .open) (r .parts) (r .waiting) (now (work .entry)) (now (work .exit)) outs outs) ⌝ }
 {
     let next = 4 * n + q;
     let found = scan(n, m, targets, q, work[next] as usize, work, parts);
@@ -173,19 +175,18 @@ fn turn(
     work: &mut [u16],
     outs: &mut [u16],
 ) -> Heights
-    requires { ⌜ Room (paritySystem n m (now targets)) (now targets) (now work) (now outs) × SearchedIn (paritySystem n m (now targets)) count parts left (now work) (now outs) × (0 < count) ⌝ }
+    requires { ⌜ Room (paritySystem n m (now targets)) (now targets) (now work) × (n ≤ length (now outs)) × SearchedIn (paritySystem n m (now targets)) count parts left (now work) (now outs) × (0 < count) ⌝ }
     ensures { λ r. ⌜ TurnSays (paritySystem n m (now (targets .entry))) count parts left (r .open) (r .parts) (r .waiting) (now (work .entry)) (now (work .exit)) (now (outs .entry)) (now (outs .exit)) ⌝ }
 {
     let start = work[2 * n + (parts - 1)];
     if 0 < left {
         let q = work[3 * n + (left - 1)] as usize;
         if start < work[q] {
-            return extend(n, m, targets, q, count, parts, left, work, outs);
+            return extend(n, m, targets, q, count, parts, left, work);
         }
     }
     let from = start as usize;
-    let label = smallest(&work[n..2 * n], from, count);
-    settle(n, label, from, count, work, outs);
+    settle(n, from, count, work, outs);
     Heights {
         open: from,
         parts: parts - 1,
@@ -195,7 +196,7 @@ fn turn(
 
 // Searches from a state, unless it is met already: everything that it reaches has its component.
 fn search(n: usize, m: usize, targets: &[u16], root: usize, work: &mut [u16], outs: &mut [u16])
-    requires { ⌜ Room (paritySystem n m (now targets)) (now targets) (now work) (now outs) × SearchedIn (paritySystem n m (now targets)) 0 0 0 (now work) (now outs) × (root < n) ⌝ }
+    requires { ⌜ Room (paritySystem n m (now targets)) (now targets) (now work) × (n ≤ length (now outs)) × SearchedIn (paritySystem n m (now targets)) 0 0 0 (now work) (now outs) × (root < n) ⌝ }
     ensures { λ _. ⌜ SearchSays (paritySystem n m (now (targets .entry))) root (now (work .entry)) (now (work .exit)) (now (outs .entry)) (now (outs .exit)) ⌝ }
 {
     if work[root] != 0 {
@@ -216,7 +217,7 @@ fn search(n: usize, m: usize, targets: &[u16], root: usize, work: &mut [u16], ou
 
 // Searches from every state that is not yet met.
 pub(crate) fn search_all(n: usize, m: usize, targets: &[u16], work: &mut [u16], outs: &mut [u16])
-    requires { ⌜ Room (paritySystem n m (now targets)) (now targets) (now work) (now outs) × ((i : ℕ) → i < 5 * n → at (now work) i ≡ 0) ⌝ }
+    requires { ⌜ Room (paritySystem n m (now targets)) (now targets) (now work) × (n ≤ length (now outs)) × ((i : ℕ) → i < 5 * n → at (now work) i ≡ 0) ⌝ }
     ensures { λ _. ⌜ now (outs .exit) ≡ over (tabulate n 0 (componentOf (paritySystem n m (now (targets .entry))))) (now (outs .entry)) ⌝ }
 {
     let mut q = 0;

@@ -2,7 +2,9 @@
 use borrow.Author.Needs.{needs}
 use mathlib.Core.Path.{_≡_, refl, sym, _∙_}
 use mathlib.Core.Bool.{true}
+use Prim.Native.Nat.{_≤_}
 use native.Mathlib.Omega.{arith}
+use lib.ListN.{length}
 use borrow.Author.Tests.{not-true, not-false}
 use Rattle.rules.specs.Judges.{paritySystem}
 use Rattle.components.specs.Searching.{Room}
@@ -21,7 +23,7 @@ module _ (c : tie.Else1) where
       let a = start .args in
       sym (components-tested (a .states) (a .letters) (a .targets .now) (a .work .now) (a .out .now) _ (c .before .cells-fit .ensures)) ∙ not-false _ (c .if1 .left)
 
-  room : let a = start .args in Room (paritySystem (a .states) (a .letters) (a .targets .now)) (a .targets .now) (a .work .now) (a .out .now)
+  room : let a = start .args in Room (paritySystem (a .states) (a .letters) (a .targets .now)) (a .targets .now) (a .work .now) × (a .states ≤ length (a .out .now))
   room = let a = start .args in components-room (a .states) (a .letters) (a .targets .now) (a .work .now) (a .out .now) fits
 
 returns : tie.Need-returns
@@ -30,7 +32,7 @@ returns c =
     record { answer = sym (not-true _ (c .if1 .taken)) ∙ components-tested (a .states) (a .letters) (a .targets .now) (a .work .now) (a .out .now) _ (c .before .cells-fit .ensures); array = refl }
 
 search-all-requires : tie.Need-search-all-requires
-search-all-requires c κs = let x = c .before .before .before .before .clear in (room-kept _ _ _ _ _ _ (room (c .before .before .before .before .before .before)) (x .ensures .size) refl, λ i l. x .ensures .zeros i (omega arith) l)
+search-all-requires c κs = let x = c .before .before .before .before .clear in (room-kept _ _ _ _ (room (c .before .before .before .before .before .before) .0) (x .ensures .size), room (c .before .before .before .before .before .before) .1, λ i l. x .ensures .zeros i (omega arith) l)
 
 returns-2 : tie.Need-returns-2
 returns-2 c = record { answer = sym (fits (c .before .before .before .before .before .before .before .before .before .before .before)); array = c .before .before .before .before .search-all .ensures }
@@ -38,5 +40,5 @@ returns-2 c = record { answer = sym (fits (c .before .before .before .before .be
 pub find-components-spec : {M : Type 1} → statement M
 find-components-spec =
     tie.close
-    (tie.spec (λ c κs. search needs) returns (λ c. omega (arith, room c .small)) (λ c κs. room (c .before) .work-room) search-all-requires
+    (tie.spec (λ c κs. search needs) returns (λ c. omega (arith, room c .0 .small)) (λ c κs. room (c .before) .0 .work-room) search-all-requires
     (λ c. search needs) (λ c. search needs) returns-2)

@@ -1,5 +1,5 @@
--- `components::paths::settle` meets its contract.
-use Prim.Native.Nat.{ℕ, _+_, _-_, _<_, _≤_}
+-- `components::paths::settle` meets its contract. The invariant: the states at the places from `from` up to i have their component.
+use Prim.Native.Nat.{ℕ, _+_, _*_, _-_, _<_, _≤_}
 use mathlib.Core.Path.{_≡_, refl, sym, ap, _∙_}
 use native.Mathlib.Omega.{arith}
 use native.Mathlib.Nat.{le-antisymm}
@@ -8,21 +8,25 @@ use lib.ListN.{length, length-set}
 use borrow.Author.Needs.{needs}
 use Rattle.components.specs.Places.{at}
 use Rattle.components.specs.Searching.{stackIn, Settled}
-use Rattle.components.proofs.Stores.{part-at, part-behind}
+use Rattle.components.proofs.Stores.{part-at, part-length, part-behind}
 use Rattle.components.proofs.Loops.{settled-none, settled-more}
 use Rattle.components.proofs.paths.settle.Statement.{statement}
 use Rattle.components.proofs.paths.settle.Tie as tie
 
 abbrev Inv-loop : tie.InvT-loop
-Inv-loop n label from to work₀ outs₀ i₀ work outs i = (from ≤ i) × (i ≤ to) × (length work ≡ length work₀) × (length outs ≡ length outs₀) × Settled n label from i work₀ work outs₀ outs
+Inv-loop n from to work₀ outs₀ label i₀ work outs i = (from ≤ i) × (i ≤ to) × (length work ≡ length work₀) × (length outs ≡ length outs₀) × Settled n label from i work₀ work outs₀ outs
 
 abbrev μ-loop : tie.MeasureT-loop
-μ-loop n label from to work₀ outs₀ i₀ work outs i = to - i
+μ-loop n from to work₀ outs₀ label i₀ work outs i = to - i
+
+-- the part that is lent is the stack
+half : (n : ℕ) → 2 * n - n ≡ n
+half n = omega arith
 
 -- a place is left
 module _ (c : tie.In-loop Inv-loop μ-loop) where
   abbrev s : tie.Start Inv-loop μ-loop
-  s = c .before .before
+  s = c .before .before .before .before .before .before .before
 
   abbrev t : tie.At-loop Inv-loop μ-loop
   t = c .before
@@ -36,8 +40,13 @@ module _ (c : tie.In-loop Inv-loop μ-loop) where
   state : at (t .loop .work) (s .args .n + t .loop .i) < s .args .n
   state = rw is (s .pre .4 (t .loop .i) (c .loop-test .taken))
 
+smallest-requires : tie.Need-smallest-requires Inv-loop μ-loop
+smallest-requires c κs =
+    let s = c .before .before .before .before in
+    (s .pre .0, rw (half (s .args .n)) (omega (arith, s .pre .1, part-length (s .args .n) (s .args .n) (s .args .work .now) (omega (arith, s .pre .2)))))
+
 loop-holds : tie.Need-loop-holds Inv-loop μ-loop
-loop-holds c = (search needs, search needs, refl, refl, settled-none _ _ _ _ _)
+loop-holds c = (omega arith, omega (arith, c .before .before .before .before .before .pre .0), refl, refl, settled-none _ _ _ _ _)
 
 loop-again : tie.Need-loop-again Inv-loop μ-loop
 loop-again c =
@@ -47,12 +56,15 @@ loop-again c =
     (omega arith, omega arith, simp length-set (v .2), simp length-set (v .3), settled-more _ _ _ _ _ _ _ _ _ (v .4) (v .0) (is u) l (omega (arith, v .2, s u .pre .2)) (omega (arith, v .3, s u .pre .3)))
 
 returns : tie.Need-returns Inv-loop μ-loop
-returns c = rw (le-antisymm (c .before .loop .inv .1) (c .loop-test .left)) at (c .before .loop .inv .4)
+returns c =
+    let v = c .before .loop .inv in
+    record { label = c .before .before .smallest .result; smallest = rw (half (c .before .before .before .before .before .before .before .args .n)) at (c .before .before .smallest .ensures); settled = rw (le-antisymm (v .1) (c .loop-test .left)) at (v .4) }
 
 pub settle-spec : {M : Type 1} → statement M
 settle-spec =
     tie.close
-    (tie.spec Inv-loop μ-loop loop-holds (λ c. search needs) (λ c. search needs) (λ c. search needs) (λ c. omega (arith, state (c .before)))
+    (tie.spec Inv-loop μ-loop (λ c. search needs) (λ c. search needs) (λ c. omega arith) (λ c. omega arith) (λ c. search needs) smallest-requires loop-holds
+    (λ c. search needs) (λ c. search needs) (λ c. search needs) (λ c. omega (arith, state (c .before)))
     (λ c. omega (arith, state (c .before))) (λ c. omega (arith, state (c .before), c .before .before .loop .inv .2))
     (λ c. omega (arith, state (c .before))) (λ c. omega (arith, state (c .before), c .before .before .loop .inv .3)) (λ c. search needs)
     (λ c. search needs) loop-again (λ c. c .before .loop .inv .2) (λ c. c .before .loop .inv .3) returns)
