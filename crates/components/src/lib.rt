@@ -52,7 +52,12 @@ pub fn find_components(
         return false;
     }
     clear(5 * states, work);
-    paths::search_all(states, letters, targets, work, out);
+    let mut q = 0;
+    // no state is open, and the states below q have their component
+    while q < states {
+        paths::search(states, letters, targets, q, work, out);
+        q += 1;
+    }
     true
 }
 

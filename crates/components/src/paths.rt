@@ -8,9 +8,6 @@ ghost use mathlib.Core.Path.{_≡_};
 ghost use mathlib.Core.List.{List};
 ghost use Prim.Native.Nat.{ℕ, _+_, _*_, _-_, _<_, _≤_};
 ghost use lib.ListN.{length};
-ghost use Rattle.rules.specs.Basics.{tabulate};
-ghost use Rattle.rules.specs.Says.{over};
-ghost use Rattle.rules.specs.Systems.{componentOf};
 ghost use Rattle.rules.specs.Judges.{paritySystem};
 ghost use Rattle.components.specs.Places.{at, Rising};
 ghost use Rattle.components.specs.Searching.{doneNumber, numbersIn, stackIn, startsIn, waitingIn, SearchedIn, Joined, Scanned, Entered, Smallest, Closed, Room, TurnSays, SearchSays};
@@ -195,7 +192,14 @@ fn turn(
 }
 
 // Searches from a state, unless it is met already: everything that it reaches has its component.
-fn search(n: usize, m: usize, targets: &[u16], root: usize, work: &mut [u16], outs: &mut [u16])
+pub(crate) fn search(
+    n: usize,
+    m: usize,
+    targets: &[u16],
+    root: usize,
+    work: &mut [u16],
+    outs: &mut [u16],
+)
     requires { ⌜ Room (paritySystem n m (now targets)) (now targets) (now work) × (n ≤ length (now outs)) × SearchedIn (paritySystem n m (now targets)) 0 0 0 (now work) (now outs) × (root < n) ⌝ }
     ensures { λ _. ⌜ SearchSays (paritySystem n m (now (targets .entry))) root (now (work .entry)) (now (work .exit)) (now (outs .entry)) (now (outs .exit)) ⌝ }
 {
@@ -212,18 +216,5 @@ fn search(n: usize, m: usize, targets: &[u16], root: usize, work: &mut [u16], ou
         count = heights.open;
         parts = heights.parts;
         left = heights.waiting;
-    }
-}
-
-// Searches from every state that is not yet met.
-pub(crate) fn search_all(n: usize, m: usize, targets: &[u16], work: &mut [u16], outs: &mut [u16])
-    requires { ⌜ Room (paritySystem n m (now targets)) (now targets) (now work) × (n ≤ length (now outs)) × ((i : ℕ) → i < 5 * n → at (now work) i ≡ 0) ⌝ }
-    ensures { λ _. ⌜ now (outs .exit) ≡ over (tabulate n 0 (componentOf (paritySystem n m (now (targets .entry))))) (now (outs .entry)) ⌝ }
-{
-    let mut q = 0;
-    // no state is open, and the states below q have their component
-    while q < n {
-        search(n, m, targets, q, work, outs);
-        q += 1;
     }
 }
