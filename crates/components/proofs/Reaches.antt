@@ -1,8 +1,8 @@
 -- A search from one state on, for any system and whatever the arrays are.
 --     reached-start, reached-old, reached-new, reached-row     the first state; one letter more, to a state that is met or not; all letters of a state
 --     reached-path       a path leads to every state that is met, with fewer letters than its number
---     untouched-none, untouched-then, untouched-cleared     entries past the states that are met: nothing is written, one writing after another,
---                        the numbers are cleared
+--     untouched-none, untouched-then, untouched-start     entries past the states that are met: nothing is written, one writing after another,
+--                        the numbers are cleared and the first state is met
 --     Reaching, reach-room-kept, reaching-none, reaching-more, reached-own     the search underway
 --     LeadsOn, Leading, leading-none, leading-more, leading-all     a path written from its end
 --     reached-exact      when all letters are read, what is met is what is reached
@@ -20,7 +20,7 @@ use borrow.Author.Tests.{eqb-true, lt-ltb}
 use Rattle.rules.specs.Arrays.{Cleared}
 use Rattle.rules.specs.Systems.{System, reaches, Path, here, step}
 use Rattle.rules.proofs.Bools.{by, clash}
-use Rattle.rules.proofs.Filling.{beyond-none, beyond-then, beyond-wider}
+use Rattle.rules.proofs.Filling.{beyond-none, beyond-set, beyond-then, beyond-wider}
 use Rattle.rules.proofs.Reach.{path-append, path-reaches, reaches-view}
 use Rattle.components.specs.Places.{at, Put}
 use Rattle.components.specs.Reaches.{Came, Reached, ReachRoom, Untouched, ReadSays}
@@ -182,11 +182,16 @@ untouched-then l x y =
       past-letters = beyond-then (beyond-wider l (x .past-letters)) (y .past-letters);
     }
 
--- the numbers are cleared
-pub untouched-cleared : {n : ℕ} {numbers numbers′ : List ℕ} (queue parents letters : List ℕ) → Cleared 0 n numbers numbers′
-    → Untouched n 0 numbers numbers′ queue queue parents parents letters letters
-untouched-cleared queue parents letters x =
-    record { past-numbers = record { size = x .size; same = x .rest }; past-queue = beyond-none 0 queue; past-parents = beyond-none 0 parents; past-letters = beyond-none 0 letters }
+-- the numbers are cleared, and the first state is met
+pub untouched-start : {n : ℕ} {numbers : List ℕ} (cleared queue parents letters : List ℕ) (from : ℕ) → Cleared 0 n numbers cleared → from < n
+    → Untouched n 1 numbers (set cleared from 1) queue (set queue 0 from) parents parents letters letters
+untouched-start cleared queue parents letters from x l =
+    record {
+      past-numbers = beyond-then (record { size = x .size; same = x .rest }) (beyond-set _ cleared from 1 l);
+      past-queue = beyond-set 1 queue 0 from (omega arith);
+      past-parents = beyond-none 1 parents;
+      past-letters = beyond-none 1 letters;
+    }
 
 pub reach-room-kept : (s : System) (c : ℕ) (targets numbers numbers′ queue queue′ parents parents′ letters letters′ : List ℕ) → ReachRoom s targets numbers queue parents letters
     → Untouched (s .states) c numbers numbers′ queue queue′ parents parents′ letters letters′ → ReachRoom s targets numbers′ queue′ parents′ letters′

@@ -83,7 +83,26 @@ pub fn find_reached(
         return 0;
     }
     clear(states, numbers);
-    reach::reach_from(states, letters, targets, from, numbers, queue, parents, by)
+    numbers[from] = 1;
+    queue[0] = from as u16;
+    let mut met = 1;
+    let mut k = 0;
+    // all letters of the states at the places below k are read
+    while k < met {
+        met = reach::read_state(
+            states,
+            letters,
+            targets,
+            k,
+            met,
+            numbers,
+            queue,
+            parents,
+            by,
+        );
+        k += 1;
+    }
+    met
 }
 
 // The letters of a path to the state at a place, at the end of `out`, and where they begin.

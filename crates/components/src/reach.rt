@@ -4,7 +4,7 @@ ghost use mathlib.Core.Path.{_≡_};
 ghost use Prim.Native.Nat.{ℕ, _+_, _<_};
 ghost use Rattle.rules.specs.Judges.{paritySystem};
 ghost use Rattle.components.specs.Places.{at};
-ghost use Rattle.components.specs.Reaches.{Reached, ReachRoom, Untouched, ReadSays, ReachSays};
+ghost use Rattle.components.specs.Reaches.{Reached, ReachRoom, ReadSays};
 
 // Reads letter a of the state at place k, and gives how many states are met then.
 fn read_letter(
@@ -37,7 +37,7 @@ fn read_letter(
 }
 
 // Reads all letters of the state at place k, and gives how many states are met then.
-fn read_state(
+pub(crate) fn read_state(
     n: usize,
     m: usize,
     targets: &[u16],
@@ -71,32 +71,6 @@ fn read_state(
             by,
         );
         a += 1;
-    }
-    met
-}
-
-// Meets all that a state reaches, and gives how many states that are.
-pub(crate) fn reach_from(
-    n: usize,
-    m: usize,
-    targets: &[u16],
-    from: usize,
-    numbers: &mut [u16],
-    queue: &mut [u16],
-    parents: &mut [u16],
-    by: &mut [u8],
-) -> usize
-    requires { ⌜ ReachRoom (paritySystem n m (now targets)) (now targets) (now numbers) (now queue) (now parents) (now by) × (from < n) × ((q : ℕ) → q < n → at (now numbers) q ≡ 0) ⌝ }
-    ensures { λ r. ⌜ ReachSays (paritySystem n m (now (targets .entry))) from r (now (numbers .exit)) (now (queue .exit)) (now (parents .exit)) (now (by .exit)) × Untouched n r (now (numbers .entry)) (now (numbers .exit)) (now (queue .entry)) (now (queue .exit)) (now (parents .entry)) (now (parents .exit)) (now (by .entry)) (now (by .exit)) ⌝ }
-{
-    numbers[from] = 1;
-    queue[0] = from as u16;
-    let mut met = 1;
-    let mut k = 0;
-    // all letters of the states at the places below k are read
-    while k < met {
-        met = read_state(n, m, targets, k, met, numbers, queue, parents, by);
-        k += 1;
     }
     met
 }
