@@ -1,5 +1,4 @@
 -- The laws that the proofs of the functions cite.
-pub mod Reaching
 pub mod Stores
 pub mod Searches
 pub mod Loops

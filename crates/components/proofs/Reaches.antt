@@ -25,7 +25,7 @@ use Rattle.rules.proofs.Reach.{path-append, path-reaches, reaches-view}
 use Rattle.components.specs.Places.{at, Put}
 use Rattle.components.specs.Reaches.{Came, Reached, ReachRoom, Untouched, ReadSays}
 use Rattle.components.specs.Calls.{PathFound}
-use Rattle.components.proofs.Reaching.{kept-along}
+use Rattle.rules.proofs.Reaching.{kept-along}
 use Rattle.components.proofs.Searches.{same-or, room}
 
 pub reached-start : (s : System) (from : ℕ) (number number′ queue queue′ parent letter : ℕ → ℕ) → from < s .states → ((q : ℕ) → q < s .states → number q ≡ 0)

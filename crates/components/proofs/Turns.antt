@@ -18,7 +18,7 @@ use lib.Seq.{getD-take}
 use Rattle.rules.specs.Systems.{System, reaches, componentOf}
 use Rattle.components.specs.Places.{at, part, Put}
 use Rattle.components.specs.Searching.{doneNumber, numbersIn, stackIn, startsIn, waitingIn, nextIn, Letters, Searched, SearchedIn, Read, Scanned, Entered, Closed, Room, TurnSays}
-use Rattle.components.proofs.Reaching.{reaches-trans, reaches-step}
+use Rattle.rules.proofs.Reaching.{reaches-trans, reaches-step}
 use Rattle.components.proofs.Stores.{put-set, part-at, part-length, part-here, part-other, part-behind}
 use Rattle.components.proofs.Searches.{same-or, parts-few, waiting-few, back, starts-below, read-more, enter, leave, grown, settle}
 use Rattle.components.proofs.Loops.{read-all}

@@ -3,6 +3,7 @@ pub mod Bools
 pub mod Sets
 pub mod Bits
 pub mod Reach
+pub mod Reaching
 pub mod Appearance
 pub mod Pigeonhole
 pub mod Orbits

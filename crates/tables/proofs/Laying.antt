@@ -28,7 +28,7 @@ use Rattle.rules.proofs.Bools.{by, clash}
 use Rattle.rules.proofs.Reach.{met-view}
 use Rattle.rules.proofs.Filling.{over-at}
 use Rattle.rules.proofs.Refusals.{TakenTable, taken-table}
-use Rattle.components.proofs.Reaching.{SameGo, same-component, same-met}
+use Rattle.rules.proofs.Reaching.{SameGo, same-component, same-met}
 use Rattle.tables.specs.Layouts.{wideTarget, targetIn, marksIn, TargetsLaid, MarksLaid, targetCells, markCells, IsTable, countedPairs, requiredIn, pairBits, countedIn}
 use Rattle.tables.specs.Parts.{Taken, Listed}
 use Rattle.tables.proofs.Cells.{target-count, marks-small}
