@@ -15,10 +15,11 @@ use lib.ListN.{length}
 use lib.Seq.{length-take-le}
 use borrow.Author.Tests.{eqb-false, ltb-true, ltb-false, lt-ltb, le-ltb, leb-false}
 use Rattle.rules.specs.Basics.{pick, any}
-use Rattle.rules.specs.Limits.{maxLetters, maxRows, noRow}
+use Rattle.rules.specs.Limits.{maxLetters, noRow}
 use Rattle.rules.specs.Rows.{Plan, rowsOf, targetNumber}
 use Rattle.rules.specs.Says.{areShort}
 use Rattle.rules.proofs.Bools.{by, or-none}
+use Rattle.rules.proofs.Refusals.{taken-arrays}
 use Rattle.rules.proofs.Sets.{none-at}
 use Rattle.explore.specs.declared.Task.{Task}
 use Rattle.explore.specs.declared.Explored.the-variants.{Rows, Full, Unfit}
@@ -31,21 +32,8 @@ use Rattle.explore.proofs.Rounds.{all-read, all-over}
 -- ---- what can be explored
 pub has-room : (m c : ℕ) (ts ps keys : List ℕ) → areShort c m (length ts) (length ps) (length keys) (length keys) ≡ false → Room m c ts ps keys
 has-room m c ts ps keys h =
-    let k = c * m in
-    let rows = ltb (length keys) c || ltb (length keys) c in
-    let priorities = ltb (length ps) k || rows in
-    let targets = ltb (length ts) k || priorities in
-    let p = or-none (eqb c 0) (ltb maxRows c || targets) h in
-    let q = or-none (ltb maxRows c) targets (p .1) in
-    let r = or-none (ltb (length ts) k) priorities (q .1) in
-    let s = or-none (ltb (length ps) k) rows (r .1) in
-    record {
-      some-rows = omega (arith, eqb-false c 0 (p .0));
-      most-rows = ltb-false maxRows c (q .0);
-      target-room = ltb-false (length ts) k (r .0);
-      priority-room = ltb-false (length ps) k (s .0);
-      key-room = ltb-false (length keys) c (or-none (ltb (length keys) c) (ltb (length keys) c) (s .1) .0);
-    }
+    let r = taken-arrays c m (length ts) (length ps) (length keys) (length keys) h in
+    record { some-rows = r .some-rows; most-rows = r .most-rows; target-room = r .target-room; priority-room = r .priority-room; key-room = r .record-room }
 
 module _ (t : Task) (cells : List ℕ) (c : ℕ) (keys ts ps : List ℕ) where
   abbrev m : ℕ

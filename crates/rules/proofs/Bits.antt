@@ -7,15 +7,14 @@
 --     as-bits-below, as-bits-at     the number whose bits pass a test, and its bits
 --     bits-determine, bits-are      numbers with the same bits are equal
 --     both-below         two bytes, as one word, have no bit from j on: both are below 2 ^ j
---     joined-low, joined-high     two bytes, as one word, joined to a word: the lower and the upper byte of it
 use mathlib.Core.Path.{_≡_, refl, sym, ap, _∙_}
 use mathlib.Core.Bool.{Bool, true, false, not, _&&_, _||_}
 use Prim.Native.Nat.{ℕ, zero, suc, _+_, _-_, _*_, _/_, _%_, _^_, max, min, _<_, _≤_}
 use native.Mathlib.Nat.{one-mul, one-le-pow, pow-suc, div-eq-of-lt, zero-div, div-one, zero-add, not-suc-le-zero, zero-mul, mod-lt}
 use native.Mathlib.Omega.{arith}
 use lib.Dec.{eqb, ltb, lit<, eqb·suc-zero}
-use lib.Bits.{bitAnd, bitOr, and-step, or-step, and-shr, or-shr, and-le-r, or-shifted, and-block, and-high, or-mod}
-use lib.Pow.{pow-lt, pow-add, shl-exact, shl-shr, shr-shr, pow-pos, shr-mod, split, low, high}
+use lib.Bits.{bitAnd, bitOr, and-step, or-step, and-shr, or-shr, and-le-r, or-shifted, and-block, and-high}
+use lib.Pow.{pow-lt, pow-add, shl-exact, shl-shr, shr-shr, pow-pos, shr-mod, split}
 use borrow.Author.Tests.{eqb-true, eqb-false, eq-eqb, ne-eqb, ltb-true, ltb-false}
 use Rattle.rules.specs.Basics.{bit, when, asBits}
 use Rattle.rules.proofs.Bools.{by, clash}
@@ -180,11 +179,3 @@ both-below j u v l lu lv =
     ap (λ (x : ℕ). eqb x 0) (and-block 8 v m u m lu (omega (arith, pow-pos j)))
     ∙ both-none (bitAnd v m) (bitAnd u m)
     ∙ rw (h u lu, h v lv)
-
--- what a word has once such a word is joined to it, byte by byte
-module _ (w u v : ℕ) (l : u < 256) where
-  pub joined-low : bitOr w (v * 256 + u) % 256 ≡ bitOr (w % 256) u
-  joined-low = or-mod w (v * 256 + u) 8 ∙ ap (bitOr (w % 256)) (low v 8 l)
-
-  pub joined-high : bitOr w (v * 256 + u) / 256 ≡ bitOr (w / 256) v
-  joined-high = or-shr w (v * 256 + u) 8 ∙ ap (bitOr (w / 256)) (high v 8 l)

@@ -6,6 +6,7 @@
 --     taken-word       what holds of a word that is taken
 --     taken-parity     what holds of a parity table that is taken
 --     parity-none      a parity table with nothing to refuse
+--     taken-arrays     what holds of a capacity and of lent arrays that are taken, and arrays-taken the other way
 --     fault-below      the refusals of a table are those up to the marks'
 use mathlib.Core.Path.{_≡_, refl}
 use mathlib.Core.Bool.{Bool, true, false, _||_}
@@ -22,6 +23,7 @@ use Rattle.rules.specs.Refusals as Refusal
 use Rattle.rules.specs.Runs.{strayLetter}
 use Rattle.rules.specs.Tables.{tableOf, tableFault, sizesFault, tableLength, targetFault, marksFault}
 use Rattle.rules.specs.Judges.{wordFault, parityFault}
+use Rattle.rules.specs.Says.{areShort}
 use Rattle.rules.proofs.Bools.{or-none}
 
 -- ---- chains of refusals
@@ -66,6 +68,36 @@ taken-sizes n m k h =
       most-pairs = ltb-false maxPairs k (b .2);
       most-cells = mul-le-mul (a .1) (b .1);
     }
+
+-- ---- a capacity and lent arrays that are taken
+pub record TakenArrays (c m a b d e : ℕ) : Type 0 where
+  pub some-rows : 1 ≤ c
+  pub most-rows : c ≤ maxRows
+  pub target-room : c * m ≤ a
+  pub priority-room : c * m ≤ b
+  pub state-room : c ≤ d
+  pub record-room : c ≤ e
+
+pub taken-arrays : (c m a b d e : ℕ) → areShort c m a b d e ≡ false → TakenArrays c m a b d e
+taken-arrays c m a b d e h =
+    let rows = ltb d c || ltb e c in
+    let p = in-range maxRows c (ltb a (c * m) || (ltb b (c * m) || rows)) h in
+    let q = or-none (ltb a (c * m)) (ltb b (c * m) || rows) (p .2) in
+    let r = or-none (ltb b (c * m)) rows (q .1) in
+    let s = or-none (ltb d c) (ltb e c) (r .1) in
+    record {
+      some-rows = p .0;
+      most-rows = p .1;
+      target-room = ltb-false a (c * m) (q .0);
+      priority-room = ltb-false b (c * m) (r .0);
+      state-room = ltb-false d c (s .0);
+      record-room = ltb-false e c (s .1);
+    }
+
+pub arrays-taken : {c m a b d e : ℕ} → TakenArrays c m a b d e → areShort c m a b d e ≡ false
+arrays-taken {c} {m} {a} {b} {d} {e} t =
+    rw
+    (ne-eqb c 0 (λ z. omega (arith, t .some-rows)), le-ltb maxRows c (t .most-rows), le-ltb a (c * m) (t .target-room), le-ltb b (c * m) (t .priority-room), le-ltb d c (t .state-room), le-ltb e c (t .record-room))
 
 -- ---- a table that is taken
 pub record TakenTable (bs : List ℕ) : Type 0 where

@@ -1,40 +1,77 @@
 -- The codes of cells, from a table that is laid out and what was surveyed of it.
---     written-none, written-more     no cell is written yet; one cell more
+--     lay-fault            with room for the cells of a table that is taken, laying out refuses nothing but the table
+--     few-cells, many-cells     there is such room in small arrays for a table of few bytes, in large ones for any
+--     LaidTable t n m start ts ms, laid-table     what is laid out of a table that is taken: its sizes and its start, and its cells in the arrays
+--     key-small            the key at which a state is entered, by any set of pairs
 --     rising-marked        the rising pairs of a state, from the set of the pairs that count
---     code-laid            the code that the laid-out cells give a transition is the cell's
---     Found t n m ..       what was surveyed, and the keys at which states are entered
---     laid-cells           a laid-out table has no more cells than a table can have
---     surveyed             what a survey leaves
---     found-sets           the sets that were surveyed are those of the pairs that count, and the records in the keys are small
---     found-room, found-codes, found-start     with them the codes can be written, and what is written is the table's
+--     laid-fit, surveyed       there is room for the cells that are laid out where there is for the table's, and what a survey of them leaves
+--     first-key, cells-room    the key of the first row, and that with the keys at which states are entered the codes can be written
+--     code-laid, codes-written the code that the laid-out cells give a transition is the table's, and so are those of all cells
 use mathlib.Core.Path.{_≡_, refl, sym, ap, _∙_}
 use mathlib.Core.Bool.{Bool, true, false, _&&_}
 use mathlib.Core.List.{List}
 use Prim.Native.Nat.{ℕ, zero, suc, _+_, _-_, _*_, _/_, _%_, _^_, _≤_, _<_}
-use native.Mathlib.Nat.{lt-of-lt-of-le, mul-le-mul, not-suc-le-zero}
+use native.Mathlib.Nat.{lt-of-lt-of-le, not-suc-le-zero}
 use native.Mathlib.Omega.{arith}
 use lib.Bits.{bitAnd, and-lt}
 use lib.Dec.{eqb, leb}
-use lib.ListN.{length, getD, take, set, length-set}
+use lib.ListN.{length, getD, take}
 use lib.Pow.{pow-mono}
-use lib.Seq.{getD-set-same, getD-set-other, getD-take, length-take-le}
-use borrow.Author.Tests.{eqb-true, eqb-false, ne-eqb, le-leb, leb-false, lt-ltb}
-use Rattle.rules.specs.Basics.{keep, tabulate, bit, asBits}
-use Rattle.rules.specs.Judges.{paritySystem}
+use lib.Seq.{getD-take, length-take-le}
+use borrow.Author.Tests.{ne-eqb, le-leb, leb-false, lt-ltb, le-ltb}
+use Rattle.rules.specs.Basics.{firstOf, keep, tabulate, bit, asBits}
 use Rattle.rules.specs.Limits.{maxStates, maxLetters, maxPairs, noState, noRow}
 use Rattle.rules.specs.Systems.{isInside, componentOf, cell}
-use Rattle.rules.specs.Tables.{Table, systemOf, targetOf, prohibitedByte, requiredByte, prohibits, requires, counts, rising}
-use Rattle.rules.proofs.Arrays.{cell-same, cell-within}
+use Rattle.rules.specs.Tables.{Table, tableOf, tableFault, systemOf, targetOf, prohibitedByte, requiredByte, prohibits, requires, counts, rising}
+use Rattle.rules.proofs.Arrays.{cell-within}
 use Rattle.rules.proofs.Bits.{bit-and, bit-over, as-bits-below, as-bits-at, bits-are}
 use Rattle.rules.proofs.Bools.{by}
+use Rattle.rules.proofs.Refusals.{taken-table}
 use Rattle.records.specs.Words.{limit, isMarked}
-use Rattle.tables.specs.Layouts.{wideTarget, TargetsLaid, MarksLaid, IsTable, countedPairs, countedIn, surveyFits, SurveySays}
-use Rattle.tables.specs.Parts.{Listed}
-use Rattle.tables.proofs.Laying.{laid-homes-at, laid-counted}
+use Rattle.records.proofs.Packing.{kept-below, rising-below}
+use Rattle.tables.specs.Layouts.{wideTarget, TargetsLaid, MarksLaid, IsTable, countedPairs, countedIn, layFault, LaySays, surveyFits, SurveySays}
+use Rattle.tables.specs.Parts.{Taken, Listed}
+use Rattle.tables.proofs.Laying.{targets-laid, marks-laid, laid-homes, laid-counted}
 use Rattle.tables.proofs.Surveying.{home-inside, listed}
 use Rattle.explore.specs.Cells.{span}
-use Rattle.translate.specs.Cells.{cutMarks, entryKey, cellCode, codeIn, risingKey, CellsRoom, Written, LaidTable, TableCodes}
-use Rattle.translate.proofs.RowKeys.{entry-small}
+use Rattle.translate.specs.Cells.{cutMarks, entryKey, cellCode, codeIn, risingKey, CellsRoom, Written, TableCodes, HasCells}
+
+-- ---- room for the cells
+-- a refusal that is given only with another adds nothing
+first-only : (x r : ℕ) → (x ≡ 0 → r ≡ 0) → firstOf x r ≡ x
+first-only zero r h = h refl
+first-only (suc x) r h = refl
+
+module _ (bs : List ℕ) where
+  pub lay-fault : (a b : ℕ) → HasCells bs a → HasCells bs b → layFault bs a b ≡ tableFault bs
+  lay-fault a b la lb =
+      let cells = tableOf bs .states * tableOf bs .letters in
+      first-only (tableFault bs) _ (λ z. rw (le-ltb a cells (la z), le-ltb b cells (lb z)))
+
+  pub few-cells : length bs ≤ 196 → HasCells bs 64
+  few-cells l taken = let e = taken-table bs taken .exact in omega arith
+
+  pub many-cells : HasCells bs (maxStates * maxLetters)
+  many-cells taken = taken-table bs taken .sizes .most-cells
+
+-- ---- the codes of a laid-out table
+pub record LaidTable (t : Table) (n m start : ℕ) (ts ms : List ℕ) : Type 0 where
+  pub states : n ≡ t .states
+  pub letters : m ≡ t .letters
+  pub start-state : start ≡ t .start
+  pub targets : TargetsLaid t ts
+  pub marks : MarksLaid t ms
+
+pub laid-table : {bs ts ts′ ms ms′ : List ℕ} {number n m start : ℕ} → Taken bs → number ≡ 0 → length ts′ ≡ length ts → length ms′ ≡ length ms
+    → HasCells bs (length ts) → HasCells bs (length ms) → LaySays bs ts ts′ ms ms′ number n m start → LaidTable (tableOf bs) n m start ts′ ms′
+laid-table {bs} {ts} {ts′} {ms} {ms′} taken z kt km lt lm s =
+    record {
+      states = rw z at (s .state-count);
+      letters = rw z at (s .letter-count);
+      start-state = rw z at (s .start-state);
+      targets = targets-laid bs taken ts ts′ (omega (arith, lt taken)) (rw z at (s .target-array));
+      marks = marks-laid bs taken ms ms′ (omega (arith, lm taken)) (rw z at (s .mark-array));
+    }
 
 -- marks as bits, cut to the pairs that count
 cut-by-bits : (t : Table) (q marks : ℕ) (b : ℕ → Bool) → marks < 2 ^ t .pairs → ((i : ℕ) → bit i marks ≡ b (suc i))
@@ -43,25 +80,6 @@ cut-by-bits t q marks b l h =
     bits-are (t .pairs) (bitAnd marks (countedPairs t q)) (λ i. b (suc i) && counts t q (suc i))
     (and-lt (t .pairs) marks (countedPairs t q) l (as-bits-below (λ i. counts t q (suc i)) (t .pairs)))
     (λ j lj. bit-and j marks (countedPairs t q) ∙ rw (h j, as-bits-at (λ i. counts t q (suc i)) (t .pairs) j lj))
-
--- ---- cells written one by one
-module _ (n m : ℕ) (f : ℕ → ℕ → ℕ) where
-  pub written-none : (cells : List ℕ) (p : ℕ) → p ≡ 0 → n * m ≤ length cells → Written n m f p cells
-  written-none cells p e l = record { enough = l; entry = λ q a la h. absurd (omega arith) }
-
-  pub written-more : (cells : List ℕ) (q a v : ℕ) → a < m → cell m q a < length cells → v ≡ f q a
-      → Written n m f (cell m q a) cells → Written n m f (cell m q (a + 1)) (set cells (cell m q a) v)
-  written-more cells q a v la l h x = record { enough = rw (length-set cells p v) (x .enough); entry = entry-at }
-    where
-      p : ℕ
-      p = cell m q a
-
-      entry-at : (q′ a′ : ℕ) → a′ < m → cell m q′ a′ < cell m q (a + 1) → getD (set cells p v) (cell m q′ a′) 0 ≡ f q′ a′
-      entry-at q′ a′ la′ b =
-          by
-          (eqb (cell m q′ a′) p)
-          (λ e. let s = cell-same m q′ q a′ a la′ la (eqb-true (cell m q′ a′) p e) in rw (s .0, s .1) (getD-set-same cells p v 0 l ∙ h))
-          (λ e. let d = eqb-false (cell m q′ a′) p e in getD-set-other cells p (cell m q′ a′) v 0 d ∙ x .entry q′ a′ la′ (omega arith))
 
 -- ---- rising pairs
 -- two tests that agree on the first k of n numbers, of which the first fails on all others
@@ -74,6 +92,9 @@ kept-within b c (suc n) zero i l same none =
 kept-within b c (suc n) (suc k) i l same none =
     rw
     (same i (omega arith) (omega arith), kept-within b c n k (suc i) (omega arith) (λ j h u. same j (omega arith) (omega arith)) (λ j h. none j (omega arith)))
+
+pub key-small : (q k : ℕ) → risingKey q k < q * span + span
+key-small q k = omega (arith, kept-below (isMarked k) (tabulate limit 1 (λ i. i)) 0 limit (omega arith) (rising-below limit 1 (omega arith)))
 
 pub rising-marked : (t : Table) (q : ℕ) → t .pairs ≤ maxPairs → keep (isMarked (countedPairs t q)) (tabulate limit 1 (λ i. i)) ≡ rising t q
 rising-marked t q few = kept-within (isMarked set-of) (counts t q) limit (t .pairs) 1 few counted over
@@ -94,25 +115,55 @@ rising-marked t q few = kept-within (isMarked set-of) (counts t q) limit (t .pai
         rw (ne-eqb j 0 (λ z. omega arith))
         (bit-over (j - 1) set-of (lt-of-lt-of-le (as-bits-below test (t .pairs)) (pow-mono {i = t .pairs} {j = j - 1} (omega arith))))
 
--- ---- the codes of a laid-out table
+-- ---- what was surveyed, and the codes
 wide-missing : (n x : ℕ) → n ≤ 64 → leb n x ≡ true → leb n (wideTarget x) ≡ true
 wide-missing n x few h = by (eqb x noState) (λ e. rw e (le-leb n noRow (omega arith))) (λ e. rw e h)
 
 wide-there : (n x : ℕ) → n ≤ 64 → x < n → wideTarget x ≡ x
 wide-there n x few l = rw (ne-eqb x noState (λ z. omega arith))
 
-module _ (t : Table) (good : IsTable t) (ts ms hs cs es : List ℕ) (tl : TargetsLaid t ts) (ml : MarksLaid t ms) (hl : Listed (t .states) (componentOf (systemOf t)) hs) (cl : Listed (t .states) (countedPairs t) cs) (el : Listed (t .states) (entryKey t) es)
-  where
-    pub code-laid : (q a : ℕ) → q < t .states → a < t .letters → codeIn (t .states) (t .letters) ts ms hs cs es q a ≡ cellCode t q a
+module _ {t : Table} {states letters start : ℕ} {ts ms : List ℕ} (good : IsTable t) (x : LaidTable t states letters start ts ms) where
+  abbrev n : ℕ
+  n = t .states
+
+  abbrev m : ℕ
+  m = t .letters
+
+  pub laid-fit : (k : ℕ) → n * m ≤ k → states * letters ≤ k
+  laid-fit k l = rw (x .states, x .letters) l
+
+  -- with an entry for each state the survey fits
+  pub surveyed : {hs hs′ cs cs′ : List ℕ} {r : Bool} → n ≤ length hs → n ≤ length cs → length hs′ ≡ length hs → length cs′ ≡ length cs
+      → SurveySays states letters ts ms hs hs′ cs cs′ r → Listed n (componentOf (systemOf t)) hs′ × Listed n (countedPairs t) cs′
+  surveyed {hs} {hs′} {cs} {cs′} lh lc kh kc says =
+      let s = rw (x .states, x .letters) at says in
+      let fits : surveyFits n m (length ts) (length ms) (length hs) (length cs) ≡ true = rw (le-leb n maxStates (good .few-states), le-leb m maxLetters (good .few-letters), le-leb (n * m) (length ts) (x .targets .enough), le-leb (n * m) (length ms) (x .marks .enough), le-leb n (length hs) lh, le-leb n (length cs) lc) in
+      let e = s .answer ∙ fits in
+      let sets = listed n (countedIn n m ts ms) cs cs′ (omega arith) (rw e at (s .counted-array)) in
+      (laid-homes t good ts (x .targets) hs hs′ (omega arith) (rw e at (s .home-array)), record { enough = sets .enough; entry = λ q l. sets .entry q l ∙ laid-counted t good ts (x .targets) ms (x .marks) q l })
+
+  module _ {hs cs es : List ℕ} (hl : Listed n (componentOf (systemOf t)) hs) (cl : Listed n (countedPairs t) cs) (el : Listed states (λ q. risingKey q (getD cs q 0)) es) where
+    keys : Listed n (λ q. risingKey q (getD cs q 0)) es
+    keys = rw (x .states) at el
+
+    key-is : (q : ℕ) → q < n → getD es q 0 ≡ entryKey t q
+    key-is q l = keys .entry q l ∙ rw (cl .entry q l, rising-marked t q (good .few-pairs))
+
+    pub first-key : getD es start 0 ≡ entryKey t (t .start)
+    first-key = rw (x .start-state) (key-is (t .start) (good .start-state))
+
+    pub cells-room : CellsRoom states letters ts ms hs cs es
+    cells-room =
+        rw (x .states, x .letters)
+        (record { few-states = good .few-states; few-letters = good .few-letters; target-room = x .targets .enough; mark-room = x .marks .enough; home-room = hl .enough; set-room = cl .enough; keys = keys })
+
+    pub code-laid : (q a : ℕ) → q < n → a < m → codeIn n m ts ms hs cs es q a ≡ cellCode t q a
     unfolding cellCode
     code-laid q a l r =
-        by
-        (leb (t .states) x)
-        (λ f. rw (tl .entry q a l r, wide-missing (t .states) x (good .few-states) f, f))
-        (λ f. there f (leb-false (t .states) x f))
+        by (leb n end) (λ f. rw (x .targets .entry q a l r, wide-missing n end (good .few-states) f, f)) (λ f. there f (leb-false n end f))
       where
-        x : ℕ
-        x = targetOf t q a
+        end : ℕ
+        end = targetOf t q a
 
         p : ℕ
         p = prohibitedByte t q a
@@ -121,95 +172,27 @@ module _ (t : Table) (good : IsTable t) (ts ms hs cs es : List ℕ) (tl : Target
         u = requiredByte t q a
 
         small : (p < 2 ^ t .pairs) × (u < 2 ^ t .pairs)
-        small = good .small-marks (cell (t .letters) q a)
+        small = good .small-marks (cell m q a)
 
         byte : p < 256
         byte = lt-of-lt-of-le (small .0) (pow-mono {i = t .pairs} {j = 8} (omega (arith, good .few-pairs)))
 
-        low : getD ms (cell (t .letters) q a) 0 % 256 ≡ p
-        low = rw (ml .entry q a l r) (omega (arith, byte))
-
-        high : getD ms (cell (t .letters) q a) 0 / 256 ≡ u
-        high = rw (ml .entry q a l r) (omega (arith, byte))
+        parts : (getD ms (cell m q a) 0 % 256 ≡ p) × (getD ms (cell m q a) 0 / 256 ≡ u)
+        parts = rw (x .marks .entry q a l r) (omega (arith, byte), omega (arith, byte))
 
         same : (i : ℕ) → suc i - 1 ≡ i
         same i = omega arith
 
-        there : leb (t .states) x ≡ false → x < t .states → codeIn (t .states) (t .letters) ts ms hs cs es q a ≡ cellCode t q a
+        there : leb n end ≡ false → end < n → codeIn n m ts ms hs cs es q a ≡ cellCode t q a
         there f lx =
-            let inside : eqb (getD hs x 0) (getD hs q 0) ≡ isInside (systemOf t) q a = (rw (lt-ltb x (t .states) lx) at (home-inside (systemOf t) hs hl q a l)) in
+            let inside : eqb (getD hs end 0) (getD hs q 0) ≡ isInside (systemOf t) q a = (rw (lt-ltb end n lx) at (home-inside (systemOf t) hs hl q a l)) in
             let cut-p = cut-by-bits t q p (prohibits t q a) (small .0) (λ i. rw (same i)) in
             let cut-u = cut-by-bits t q u (requires t q a) (small .1) (λ i. rw (same i)) in
-            rw (tl .entry q a l r, wide-there (t .states) x (good .few-states) lx, f, inside, low, high, cl .entry q l, cut-p, cut-u, el .entry x lx)
+            rw (x .targets .entry q a l r, wide-there n end (good .few-states) lx, f, inside, parts .0, parts .1, cl .entry q l, cut-p, cut-u, key-is end lx)
 
--- ---- what was surveyed of a laid-out table, and the keys that were written
-pub record Found (n m : ℕ) (ts ms hs cs es : List ℕ) : Type 0 where
-  pub homes : Listed n (componentOf (paritySystem n m ts)) hs
-  pub sets : Listed n (countedIn n m ts ms) cs
-  pub keys : Listed n (λ q. risingKey q (getD cs q 0)) es
-
-module _ (t : Table) (n m start : ℕ) (ts ms : List ℕ) (x : LaidTable t n m start ts ms) where
-  pub laid-cells : n * m ≤ maxStates * maxLetters
-  laid-cells =
-      let a : n ≤ maxStates = rw (x .states) (x .good .few-states) in
-      let b : m ≤ maxLetters = rw (x .letters) (x .good .few-letters) in
-      mul-le-mul a b
-
-  counted-is : (q : ℕ) → q < n → countedIn n m ts ms q ≡ countedPairs t q
-  counted-is q l = rw (x .states, x .letters) (laid-counted t (x .good) ts (x .targets) ms (x .marks) q (rw (x .states) at l))
-
-  pub found-sets : (cs : List ℕ) → Listed n (countedIn n m ts ms) cs → (q : ℕ) → q < n → (getD cs q 0 ≡ countedPairs t q) × (risingKey 0 (getD cs q 0) < span)
-  found-sets cs h q l =
-      let e = h .entry q l ∙ counted-is q l in
-      let lt = rw (x .states) at l in
-      (e, rw (e, rising-marked t q (x .good .few-pairs)) (omega (arith, entry-small t q (x .good .few-pairs) lt)))
-
-  -- with an entry for each state that a table can have, the survey fits
-  pub surveyed : (hs hs′ cs cs′ : List ℕ) (r : Bool) → length hs ≡ maxStates → length cs ≡ maxStates → length hs′ ≡ length hs → length cs′ ≡ length cs
-      → SurveySays n m ts ms hs hs′ cs cs′ r → Listed n (componentOf (paritySystem n m ts)) hs′ × Listed n (countedIn n m ts ms) cs′
-  surveyed hs hs′ cs cs′ r lh lc kh kc s =
-      let few : n ≤ maxStates = omega (arith, x .states, x .good .few-states) in
-      let few-letters : m ≤ maxLetters = omega (arith, x .letters, x .good .few-letters) in
-      let cells : n * m ≤ length ts = rw (x .states, x .letters) (x .targets .enough) in
-      let marks : n * m ≤ length ms = rw (x .states, x .letters) (x .marks .enough) in
-      let fits : surveyFits n m (length ts) (length ms) (length hs) (length cs) ≡ true = rw (le-leb n maxStates few, le-leb m maxLetters few-letters, le-leb (n * m) (length ts) cells, le-leb (n * m) (length ms) marks, le-leb n (length hs) (omega arith), le-leb n (length cs) (omega arith)) in
-      let e = s .answer ∙ fits in
-      (listed n (componentOf (paritySystem n m ts)) hs hs′ (omega arith) (rw e at (s .home-array)), listed n (countedIn n m ts ms) cs cs′ (omega arith) (rw e at (s .counted-array)))
-
-  module _ (hs cs es : List ℕ) (f : Found n m ts ms hs cs es) where
-    key-is : (q : ℕ) → q < n → getD es q 0 ≡ entryKey t q
-    key-is q l = f .keys .entry q l ∙ rw (found-sets cs (f .sets) q l .0, rising-marked t q (x .good .few-pairs))
-
-    pub found-room : CellsRoom n m ts ms hs cs es
-    found-room =
-        record {
-          few-states = omega (arith, x .states, x .good .few-states);
-          few-letters = omega (arith, x .letters, x .good .few-letters);
-          target-room = rw (x .states, x .letters) (x .targets .enough);
-          mark-room = rw (x .states, x .letters) (x .marks .enough);
-          home-room = f .homes .enough;
-          set-room = f .sets .enough;
-          key-room = f .keys .enough;
-          small-keys = λ q l. let lt = rw (x .states) at l in omega (arith, key-is q l, entry-small t q (x .good .few-pairs) lt, x .good .few-states);
-        }
-
-    pub found-start : getD es start 0 ≡ entryKey t (t .start)
-    found-start = rw (x .start-state) (key-is (t .start) (rw (x .states) (x .good .start-state)))
-
-    pub found-codes : (cells : List ℕ) → Written n m (codeIn n m ts ms hs cs es) (n * m) cells → TableCodes t (take (n * m) cells)
-    found-codes cells w =
-        record {
-          size = length-take-le (n * m) cells (w .enough) ∙ rw (x .states, x .letters);
-          entry = λ q a l r. let ln : q < n = rw (x .states) l in let lm : a < m = rw (x .letters) r in let within = cell-within n m q a ln lm in rw (← x .letters) (getD-take (n * m) cells (cell m q a) 0 within ∙ w .entry q a lm within) ∙ code q a l r;
-        }
-      where
-        listed-as : {g h : ℕ → ℕ} {xs : List ℕ} → Listed n g xs → ((q : ℕ) → q < n → g q ≡ h q) → Listed (t .states) h xs
-        listed-as y e = rw (← x .states) (record { enough = y .enough; entry = λ q l. y .entry q l ∙ e q l })
-
-        code : (q a : ℕ) → q < t .states → a < t .letters → codeIn n m ts ms hs cs es q a ≡ cellCode t q a
-        code q a l r =
-            rw (x .states, x .letters)
-            (code-laid t (x .good) ts ms hs cs es (x .targets) (x .marks) (listed-as (f .homes) home-is) (listed-as (f .sets) counted-is) (listed-as (f .keys) (λ p lp. sym (f .keys .entry p lp) ∙ key-is p lp)) q a l r)
-          where
-            home-is : (p : ℕ) → p < n → componentOf (paritySystem n m ts) p ≡ componentOf (systemOf t) p
-            home-is p lp = rw (x .states, x .letters) (laid-homes-at t (x .good) ts (x .targets) p (rw (x .states) at lp))
+    pub codes-written : (cells : List ℕ) → Written states letters (codeIn states letters ts ms hs cs es) cells
+        → (states * letters ≤ length cells) × TableCodes t (take (states * letters) cells)
+    codes-written cells written =
+        let w = rw (x .states, x .letters) at written in
+        rw (x .states, x .letters)
+        (w .enough, record { size = length-take-le (n * m) cells (w .enough); entry = λ q a l r. getD-take (n * m) cells (cell m q a) 0 (cell-within n m q a l r) ∙ w .entry q a l r ∙ code-laid q a l r })

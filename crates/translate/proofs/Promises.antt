@@ -1,9 +1,4 @@
 -- From what the exploration found to what the translator promises.
---     lay-fault                with room for the cells of a table that is taken, laying out refuses nothing but the table
---     few-fit, many-fit        there is such room in small arrays for a table of few bytes, in large ones for any
---     laid-table, laid-fit     what is laid out of a table that is taken, and that there is room for its codes
---     tooShort bs c a b d e    the capacity c or one of the lent arrays is out of range, for the table that the bytes say
---     has-room                 what holds where nothing is too short
 --     kept-few, kept-sources   no more rows are kept than there is room for, and their source states are bytes
 --     translate-refused        the table's own refusal
 --     translate-short          the capacity or an array out of range
@@ -32,93 +27,19 @@ use Rattle.rules.proofs.Bools.{by, or-none}
 use Rattle.rules.proofs.Arrays.{getD-any, cells-length, mapped-at}
 use Rattle.rules.proofs.Coding.{all-at, row-coded, rows-coded, rows-good, full-coded, targets-coded, priorities-coded}
 use Rattle.rules.proofs.Filling.{beyond-then, beyond-wider, over-front, over-beyond, padded-is, filled-is, cleared-is}
-use Rattle.rules.proofs.Refusals.{taken-table, fault-below}
+use Rattle.rules.proofs.Refusals.{TakenArrays, arrays-taken, taken-table, fault-below}
 use Rattle.rules.proofs.Demands.{says-agrees}
 use Rattle.tables.specs.Parts.{Taken}
-use Rattle.tables.specs.Layouts.{layFault, LaySays}
-use Rattle.tables.proofs.Laying.{targets-laid, marks-laid, is-table}
+use Rattle.explore.specs.declared.Rule.the-variants.{Pairs}
 use Rattle.explore.specs.declared.Explored.{Explored}
 use Rattle.explore.specs.declared.Explored.the-variants.{Rows, Full}
 use Rattle.explore.specs.Cells.{sourceIn}
 use Rattle.explore.specs.Effects.{keyPlan}
-use Rattle.explore.specs.Exploring.{Leaves}
-use Rattle.translate.specs.Arrays.{RowsCleared}
+use Rattle.explore.specs.Exploring.{ExploreSays, Leaves}
 use Rattle.translate.specs.Keys.{keyRow, IsKey}
-use Rattle.translate.specs.Cells.{taskOf, LaidTable, fewBytes, CellsFit}
-use Rattle.translate.specs.Rows.{TableExplored, Unpacked, refusalOf, rowsKept}
+use Rattle.translate.specs.Cells.{entryKey, taskOf, TableCodes}
+use Rattle.translate.specs.Rows.{RowsLeft, refusalOf, rowsKept}
 use Rattle.translate.proofs.Coding.{table-codes, table-fit}
-
-abbrev maxCells : ℕ
-maxCells = maxStates * maxLetters
-
--- a refusal that is given only with another adds nothing
-first-only : (x r : ℕ) → (x ≡ 0 → r ≡ 0) → firstOf x r ≡ x
-first-only zero r h = h refl
-first-only (suc x) r h = refl
-
-pub lay-fault : (bs : List ℕ) (a b d : ℕ) → (Taken bs → CellsFit (tableOf bs) a b d) → layFault bs a b ≡ tableFault bs
-lay-fault bs a b d fit =
-    let cells = tableOf bs .states * tableOf bs .letters in
-    first-only (tableFault bs) _ (λ z. rw (le-ltb a cells (fit z .targets), le-ltb b cells (fit z .marks)))
-
--- the cells of a table of few bytes, and of any
-pub few-fit : (bs : List ℕ) → length bs ≤ fewBytes → Taken bs → CellsFit (tableOf bs) 64 64 64
-few-fit bs l taken =
-    let e = taken-table bs taken .exact in record { targets = omega arith; marks = omega arith; codes = omega arith }
-
-pub many-fit : (bs : List ℕ) → Taken bs → CellsFit (tableOf bs) maxCells maxCells maxCells
-many-fit bs taken = let l = taken-table bs taken .sizes .most-cells in record { targets = l; marks = l; codes = l }
-
--- what is laid out of a table that is taken
-pub laid-table : (bs ts ts′ ms ms′ : List ℕ) (number states letters start : ℕ) → Taken bs → number ≡ 0
-    → tableOf bs .states * tableOf bs .letters ≤ length ts′ → tableOf bs .states * tableOf bs .letters ≤ length ms′
-    → LaySays bs ts ts′ ms ms′ number states letters start → LaidTable (tableOf bs) states letters start ts′ ms′
-laid-table bs ts ts′ ms ms′ number states letters start taken z lt lm s =
-    record {
-      good = is-table bs taken;
-      states = rw z at (s .state-count);
-      letters = rw z at (s .letter-count);
-      start-state = rw z at (s .start-state);
-      targets = targets-laid bs taken ts ts′ lt (rw z at (s .target-array));
-      marks = marks-laid bs taken ms ms′ lm (rw z at (s .mark-array));
-    }
-
-pub laid-fit : (t : Table) (states letters start : ℕ) (ts ms : List ℕ) (a b d : ℕ) → LaidTable t states letters start ts ms → CellsFit t a b d → states * letters ≤ d
-laid-fit t states letters start ts ms a b d laid fit = rw (laid .states, laid .letters) (fit .codes)
-
--- ---- the returns
-abbrev pub tooShort : List ℕ → ℕ → List ℕ → List ℕ → List ℕ → List ℕ → Bool
-tooShort bs c ts ps ss es = areShort c (tableOf bs .letters) (length ts) (length ps) (length ss) (length es)
-
-pub record HasRoom (c m : ℕ) (ts ps ss es : List ℕ) : Type 0 where
-  pub most-rows : c ≤ maxRows
-  pub target-room : c * m ≤ length ts
-  pub priority-room : c * m ≤ length ps
-  pub state-room : c ≤ length ss
-  pub number-room : c ≤ length es
-  -- nor is an array of keys as long as that of the record numbers too short
-  pub fit : areShort c m (length ts) (length ps) (length es) (length es) ≡ false
-
-pub has-room : (c m : ℕ) (ts ps ss es : List ℕ) → areShort c m (length ts) (length ps) (length ss) (length es) ≡ false → HasRoom c m ts ps ss es
-has-room c m ts ps ss es fits =
-    let k = c * m in
-    let numbers = ltb (length es) c in
-    let states = ltb (length ss) c || numbers in
-    let priority-tests = ltb (length ps) k || states in
-    let target-tests = ltb (length ts) k || priority-tests in
-    let p = or-none (eqb c 0) (ltb maxRows c || target-tests) fits in
-    let q = or-none (ltb maxRows c) target-tests (p .1) in
-    let r = or-none (ltb (length ts) k) priority-tests (q .1) in
-    let s = or-none (ltb (length ps) k) states (r .1) in
-    let u = or-none (ltb (length ss) c) numbers (s .1) in
-    record {
-      most-rows = ltb-false maxRows c (q .0);
-      target-room = ltb-false (length ts) k (r .0);
-      priority-room = ltb-false (length ps) k (s .0);
-      state-room = ltb-false (length ss) c (u .0);
-      number-room = ltb-false (length es) c (u .1);
-      fit = rw (p .0, q .0, r .0, s .0, u .1);
-    }
 
 pub translate-refused : (bs : List ℕ) (c : ℕ) (ts ps ss es : List ℕ) (r : ℕ) → r ≡ tableFault bs → (r ≡ 0 → ⊥) → TranslateSays bs c ts ts ps ps ss ss es es r 0
 unfolding translateFault
@@ -136,7 +57,8 @@ translate-refused bs c ts ps ss es (suc r) f g =
     kept : (k : ℕ) (xs o : List ℕ) → o ≡ afterwards (suc r) k xs o
     kept k xs o = rw (eqb·suc-zero r, ne-eqb (suc r) Refusal.full (λ z. omega (arith, fault-below bs)))
 
-module _ (bs : List ℕ) (taken : Taken bs) (c : ℕ) (ts ps ss es : List ℕ) where
+-- a table that is taken, and the test of the arrays by its letters
+module _ (bs : List ℕ) (letters c : ℕ) (ts ps ss es : List ℕ) (taken : Taken bs) (same-letters : letters ≡ tableOf bs .letters) where
   abbrev t : Table
   t = tableOf bs
 
@@ -149,29 +71,37 @@ module _ (bs : List ℕ) (taken : Taken bs) (c : ℕ) (ts ps ss es : List ℕ) w
   abbrev rows : List (Row (List ℕ))
   rows = rowsOf g c
 
-  pub translate-short : tooShort bs c ts ps ss es ≡ true → TranslateSays bs c ts ts ps ps ss ss es es Refusal.arrays 0
+  pub translate-short : areShort c letters (length ts) (length ps) (length ss) (length es) ≡ true → TranslateSays bs c ts ts ps ps ss ss es es Refusal.arrays 0
   unfolding translateFault
   translate-short s =
-      record { refusal = rw (taken, s); count = refl; target-array = refl; priority-array = refl; state-array = refl; record-array = refl }
+      record { refusal = rw (taken, rw same-letters at s); count = refl; target-array = refl; priority-array = refl; state-array = refl; record-array = refl }
 
   -- there is room, and the rows have been looked for
-  module _ (fits : tooShort bs c ts ps ss es ≡ false) (es₁ ts₁ ps₁ : List ℕ) (x : Explored) (found : TableExplored t c es es₁ ts ts₁ ps ps₁ x) where
-    room : HasRoom c m ts ps ss es
-    room = has-room c m ts ps ss es fits
+  module _ (enough : TakenArrays c letters (length ts) (length ps) (length ss) (length es)) {cells : List ℕ} {start : ℕ} (same-start : start ≡ entryKey t (t .start)) (codes : TableCodes t cells) {es₁ ts₁ ps₁ : List ℕ} {x : Explored} (explored : ExploreSays (record { rule = Pairs; letters = letters; start = start }) cells c es es₁ ts ts₁ ps ps₁ x) where
+    room : TakenArrays c m (length ts) (length ps) (length ss) (length es)
+    room = rw same-letters at enough
+
+    says : ExploreSays (taskOf t) cells c es es₁ ts ts₁ ps ps₁ x
+    says = rw (same-letters, same-start) at explored
 
     abbrev k : Plan ℕ
-    k = keyPlan (taskOf t) (found .cells)
+    k = keyPlan (taskOf t) cells
 
     abbrev keys : List ℕ
     keys = rowsOf k c
 
     coding : Codes k g keyRow (IsKey t)
-    coding = table-codes bs taken (found .cells) (found .codes)
+    coding = table-codes bs taken cells codes
+
+    -- nor is an array of keys as long as that of the record numbers too short
+    keys-fit : areShort c m (length ts) (length ps) (length es) (length es) ≡ false
+    keys-fit =
+        arrays-taken (record { some-rows = room .some-rows; most-rows = room .most-rows; target-room = room .target-room; priority-room = room .priority-room; state-room = room .record-room; record-room = room .record-room })
 
     answer : x ≡ pick (isFull g c) Full (Rows (length keys))
     answer =
-        found .says .answer
-        ∙ rw (table-fit bs taken (found .cells) (found .codes) c (length ts) (length ps) (length es) (room .fit), full-coded k g keyRow (IsKey t) coding c)
+        says .answer
+        ∙ rw (table-fit bs taken cells codes c (length ts) (length ps) (length es) keys-fit, full-coded k g keyRow (IsKey t) coding c)
 
     -- no more rows than the capacity
     by-answer : {C : Type 0} → (isFull g c ≡ true → x ≡ Full → C) → (isFull g c ≡ false → x ≡ Rows (length keys) → C) → C
@@ -180,13 +110,13 @@ module _ (bs : List ℕ) (taken : Taken bs) (c : ℕ) (ts ps ss es : List ℕ) w
     same-length : length keys ≡ length rows
     same-length = sym (length-map keys keyRow) ∙ ap length (rows-coded k g keyRow (IsKey t) coding c)
 
-    pub kept-few : rowsKept x ≤ c
-    kept-few = by-answer (λ e z. rw z (omega arith)) (λ e z. rw z (omega (arith, same-length, ltb-false c (length rows) e)))
+    pub kept-few : {n : ℕ} → n ≡ rowsKept x → n ≤ c
+    kept-few k = rw k (by-answer (λ e z. rw z (omega arith)) (λ e z. rw z (omega (arith, same-length, ltb-false c (length rows) e))))
 
     -- what is kept of the keys
     module _ (done : isFull g c ≡ false) (z : x ≡ Rows (length keys)) where
-      arrays : Leaves (Rows (length keys)) (taskOf t) (found .cells) c es es₁ ts ts₁ ps ps₁
-      arrays = rw z at (found .says .arrays)
+      arrays : Leaves (Rows (length keys)) (taskOf t) cells c es es₁ ts ts₁ ps ps₁
+      arrays = rw z at (says .arrays)
 
       few : length keys ≤ c
       few = omega (arith, same-length, ltb-false c (length rows) done)
@@ -200,30 +130,31 @@ module _ (bs : List ℕ) (taken : Taken bs) (c : ℕ) (ts ps ss es : List ℕ) w
       row-at : (i : ℕ) → i < length keys → keyRow (getD es₁ i 0) ≡ getD rows i (g .first)
       row-at i l = ap keyRow (key-at i l) ∙ row-coded k g keyRow (IsKey t) coding i keys ∙ rw (rows-coded k g keyRow (IsKey t) coding c)
 
-    pub kept-sources : (i : ℕ) → i < rowsKept x → sourceIn (getD es₁ i 0) < 256
-    kept-sources i =
-        by-answer
+    pub kept-sources : {n : ℕ} → n ≡ rowsKept x → (i : ℕ) → i < n → sourceIn (getD es₁ i 0) < 256
+    kept-sources k i =
+        rw k
+        (by-answer
         (λ e z. rw z (λ l. absurd (omega arith)))
-        (λ e z. rw z (λ l. rw (key-at e z i l) (omega (arith, good-key e z i .is-row .state, taken-table bs taken .sizes .most-states))))
+        (λ e z. rw z (λ l. rw (key-at e z i l) (omega (arith, good-key e z i .is-row .state, taken-table bs taken .sizes .most-states)))))
 
-    module _ (es₂ ss₁ ts′ ps′ ss′ es′ : List ℕ) (unpacked : Unpacked (rowsKept x) es₁ es₂ ss ss₁) (cleared : RowsCleared m (rowsKept x) c ts₁ ts′ ps₁ ps′ ss₁ ss′ es₂ es′) where
+    module _ {ts′ ps′ ss′ es′ : List ℕ} (left : RowsLeft m (rowsKept x) c ts₁ ts′ ps₁ ps′ ss ss′ es₁ es′) where
       abbrev Said : Type 0
       Said = TranslateSays bs c ts ts′ ps ps′ ss ss′ es es′ (refusalOf x) (rowsKept x)
 
       said-full : isFull g c ≡ true → x ≡ Full → Said
       unfolding translateFault
       said-full e z =
-          let a = rw z at (found .says .arrays) in
-          let u = rw z at unpacked in
-          let clear = rw z at cleared in
+          let a = rw z at (says .arrays) in
+          let clear = rw z at left in
+          let u = clear .unpacked in
           rw z
           (record {
-            refusal = rw (taken, fits, e);
+            refusal = rw (taken, arrays-taken room, e);
             count = refl;
             target-array = cleared-is (zero-mul m) (room .target-room) (a .1) (clear .target-array);
             priority-array = cleared-is (zero-mul m) (room .priority-room) (a .2) (clear .priority-array);
             state-array = cleared-is refl (room .state-room) (beyond-wider (omega arith) (u .state-rest)) (clear .state-array);
-            record-array = cleared-is refl (room .number-room) (beyond-then (a .0) (beyond-wider (omega arith) (u .key-rest))) (clear .number-array);
+            record-array = cleared-is refl (room .record-room) (beyond-then (a .0) (beyond-wider (omega arith) (u .key-rest))) (clear .number-array);
           })
 
       -- one number for each row
@@ -237,24 +168,25 @@ module _ (bs : List ℕ) (taken : Taken bs) (c : ℕ) (ts ps ss es : List ℕ) w
       unfolding translateFault
       said-done e z =
           let a = arrays e z in
-          let u = rw z at unpacked in
-          let clear = rw z at cleared in
+          let clear = rw z at left in
+          let u = clear .unpacked in
           let enough = few e z in
           let cells-few : length keys * m ≤ c * m = mul-le-mul-right m enough in
           let ts-are = targets-coded k g keyRow (IsKey t) coding c noRow in
           let ps-are = priorities-coded k g keyRow (IsKey t) coding c in
           rw z
           (record {
-            refusal = rw (taken, fits, e);
+            refusal = rw (taken, arrays-taken room, e);
             count = same-length;
             target-array = filled-is ts (targets bs c) (cells-length _ m rows ∙ rw same-length) cells-few (room .target-room) (a .1 ∙ rw ts-are) (clear .target-array);
             priority-array = filled-is ps (priorities bs c) (cells-length _ m rows ∙ rw same-length) cells-few (room .priority-room) (a .2 ∙ rw ps-are) (clear .priority-array);
             state-array = rows-are (λ r. r .source) (room .state-room) enough (beyond-wider enough (u .state-rest)) (clear .state-array) (λ i l. u .states i l ∙ ap (λ (r : Row (List ℕ)). r .source) (row-at e z i l));
-            record-array = rows-are (λ r. decimal (r .memory)) (room .number-room) enough (beyond-then (over-beyond keys (a .0) enough (room .number-room)) (beyond-wider enough (u .key-rest))) (clear .number-array) (λ i l. u .numbers i l ∙ ap (λ (r : Row (List ℕ)). decimal (r .memory)) (row-at e z i l));
+            record-array = rows-are (λ r. decimal (r .memory)) (room .record-room) enough (beyond-then (over-beyond keys (a .0) enough (room .record-room)) (beyond-wider enough (u .key-rest))) (clear .number-array) (λ i l. u .numbers i l ∙ ap (λ (r : Row (List ℕ)). decimal (r .memory)) (row-at e z i l));
           })
 
-      pub translate-explored : Said
-      translate-explored = by-answer said-full said-done
+    pub translate-explored : {number n : ℕ} {ts′ ps′ ss′ es′ : List ℕ} → number ≡ refusalOf x → n ≡ rowsKept x → RowsLeft letters n c ts₁ ts′ ps₁ ps′ ss ss′ es₁ es′
+        → TranslateSays bs c ts ts′ ps ps′ ss ss′ es es′ number n
+    translate-explored r k left = let l = rw (k, same-letters) at left in rw (r, k) (by-answer (said-full l) (said-done l))
 
 pub promised : {bs : List ℕ} {c : ℕ} {ts ts′ ps ps′ ss ss′ es es′ : List ℕ} {number rows : ℕ} → TranslateSays bs c ts ts′ ps ps′ ss ss′ es es′ number rows
     → TranslateSays bs c ts ts′ ps ps′ ss ss′ es es′ number rows × TranslationAgrees bs ts′ ps′ ss′ number rows

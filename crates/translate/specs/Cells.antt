@@ -7,29 +7,29 @@
 --                                the homes hs of all states and the keys es at which they are entered
 --     codeIn n m .. q a    the code of the transition of q by a, by the laid-out cells
 --     risingKey q k        the key of the row at q with the pairs of the set k, rising
---     CellsRoom n m ..     the arrays have an entry for each cell or each state, and the keys are small
---     Written n m f p cells      the cells below p hold what f says of their state and letter
---     LaidTable t n m start ts ms    t is a table with these sizes and this start, and the arrays hold its cells
+--     CellsRoom n m ..     the arrays have an entry for each cell or each state, and the keys are those at which the states are entered
+--     Written n m f cells  the cells hold what f says of their state and letter
 --     TableCodes t cells   the codes of all cells, and nothing behind them
---     fewBytes             the bytes of a table whose cells small arrays have room for
---     CellsFit t a b d     there is room for the cells of t in arrays of a targets, b marks and d codes
+--     HasCells bs k        an array of k entries has room for the cells of the table that the bytes say, if it is taken
+--     EncodeSays bs cells number letters used start     encoding: the table's refusal; else its letters, its codes in the first cells, and the
+--                          key of the first row
 use mathlib.Core.Path.{_≡_}
 use mathlib.Core.Bool.{Bool, _&&_}
 use mathlib.Core.List.{List}
 use Prim.Native.Nat.{ℕ, suc, _+_, _*_, _/_, _%_, _<_, _≤_}
 use lib.Bits.{bitAnd}
 use lib.Dec.{eqb, leb}
-use lib.ListN.{length, getD}
+use lib.ListN.{length, getD, take}
 use Rattle.rules.specs.Basics.{pick, keep, tabulate, asBits}
 use Rattle.rules.specs.Limits.{maxStates, maxLetters}
 use Rattle.rules.specs.Systems.{isInside, cell}
 use Rattle.rules.specs.Rows.{row}
-use Rattle.rules.specs.Tables.{Table, systemOf, targetOf, prohibits, requires, counts, rising}
+use Rattle.rules.specs.Tables.{Table, tableOf, tableFault, systemOf, targetOf, prohibits, requires, counts, rising}
 use Rattle.records.specs.Words.{limit, isMarked, packed}
-use Rattle.tables.specs.Layouts.{TargetsLaid, MarksLaid, IsTable}
+use Rattle.tables.specs.Parts.{Taken, Listed}
 use Rattle.explore.specs.declared.Task.{Task}
 use Rattle.explore.specs.declared.Rule.the-variants.{Pairs}
-use Rattle.explore.specs.Cells.{keyOf, crossingKind, crossingCode, insideCode}
+use Rattle.explore.specs.Cells.{keyOf, crossingCode, insideCode}
 use Rattle.translate.specs.Keys.{rowKey}
 
 abbrev pub cutMarks : Table → ℕ → (ℕ → Bool) → ℕ
@@ -64,29 +64,20 @@ pub record CellsRoom (n m : ℕ) (ts ms hs cs es : List ℕ) : Type 0 where
   pub mark-room : n * m ≤ length ms
   pub home-room : n ≤ length hs
   pub set-room : n ≤ length cs
-  pub key-room : n ≤ length es
-  pub small-keys : (q : ℕ) → q < n → getD es q 0 < crossingKind
+  pub keys : Listed n (λ q. risingKey q (getD cs q 0)) es
 
-pub record Written (n m : ℕ) (f : ℕ → ℕ → ℕ) (p : ℕ) (cells : List ℕ) : Type 0 where
+pub record Written (n m : ℕ) (f : ℕ → ℕ → ℕ) (cells : List ℕ) : Type 0 where
   pub enough : n * m ≤ length cells
-  pub entry : (q a : ℕ) → a < m → cell m q a < p → getD cells (cell m q a) 0 ≡ f q a
-
-pub record LaidTable (t : Table) (n m start : ℕ) (ts ms : List ℕ) : Type 0 where
-  pub good : IsTable t
-  pub states : n ≡ t .states
-  pub letters : m ≡ t .letters
-  pub start-state : start ≡ t .start
-  pub targets : TargetsLaid t ts
-  pub marks : MarksLaid t ms
+  pub entry : (q a : ℕ) → q < n → a < m → getD cells (cell m q a) 0 ≡ f q a
 
 pub record TableCodes (t : Table) (cells : List ℕ) : Type 0 where
   pub size : length cells ≡ t .states * t .letters
   pub entry : (q a : ℕ) → q < t .states → a < t .letters → getD cells (cell (t .letters) q a) 0 ≡ cellCode t q a
 
-abbrev pub fewBytes : ℕ
-fewBytes = 196
+abbrev pub HasCells : List ℕ → ℕ → Type 0
+HasCells bs k = Taken bs → tableOf bs .states * tableOf bs .letters ≤ k
 
-pub record CellsFit (t : Table) (a b d : ℕ) : Type 0 where
-  pub targets : t .states * t .letters ≤ a
-  pub marks : t .states * t .letters ≤ b
-  pub codes : t .states * t .letters ≤ d
+pub record EncodeSays (bs cells : List ℕ) (number letters used start : ℕ) : Type 0 where
+  pub refusal : number ≡ tableFault bs
+  pub task : Taken bs
+      → (letters ≡ tableOf bs .letters) × (start ≡ entryKey (tableOf bs) (tableOf bs .start)) × (used ≤ length cells) × TableCodes (tableOf bs) (take used cells)

@@ -1,5 +1,4 @@
 -- What the translator's contracts cite beyond the rules, bottom first.
-pub mod Arrays
 pub mod Keys
 pub mod Cells
 pub mod Rows

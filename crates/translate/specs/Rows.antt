@@ -1,32 +1,33 @@
--- What is found of a table, and what the caller is told of it.
---     TableExplored t c .. x   the exploration of the table's codes has answered x
+-- What the caller is told of the rows.
 --     Unpacked n ..            n rows are unpacked: the state of each in one array, the number of its record in place of its key
+--     RowsLeft m n c ..        the same, and the rows from number n up to c are 0 in all four arrays
 --     refusalOf x              document 01's refusal for an exploration's answer
 --     rowsKept x               how many rows are kept: none if there are more than the capacity
 use mathlib.Core.Path.{_≡_}
 use mathlib.Core.List.{List}
-use Prim.Native.Nat.{ℕ, _<_}
+use Prim.Native.Nat.{ℕ, _*_, _<_}
 use lib.ListN.{getD}
 use Rattle.rules.specs.Refusals as Refusal
-use Rattle.rules.specs.Tables.{Table}
 use Rattle.explore.specs.declared.Explored.{Explored}
 use Rattle.explore.specs.declared.Explored.the-variants.{Rows, Full, Unfit}
-use Rattle.rules.specs.Arrays.{Beyond}
+use Rattle.rules.specs.Arrays.{Beyond, Cleared}
 use Rattle.explore.specs.Cells.{sourceIn}
-use Rattle.explore.specs.Exploring.{ExploreSays}
 use Rattle.translate.specs.Keys.{numberIn}
-use Rattle.translate.specs.Cells.{taskOf, TableCodes}
-
-pub record TableExplored (t : Table) (c : ℕ) (keys keys′ ts ts′ ps ps′ : List ℕ) (x : Explored) : Type 0 where
-  pub cells : List ℕ
-  pub codes : TableCodes t cells
-  pub says : ExploreSays (taskOf t) cells c keys keys′ ts ts′ ps ps′ x
 
 pub record Unpacked (n : ℕ) (keys keys′ ss ss′ : List ℕ) : Type 0 where
   pub states : (i : ℕ) → i < n → getD ss′ i 0 ≡ sourceIn (getD keys i 0)
   pub numbers : (i : ℕ) → i < n → getD keys′ i 0 ≡ numberIn (getD keys i 0)
   pub state-rest : Beyond n ss ss′
   pub key-rest : Beyond n keys keys′
+
+pub record RowsLeft (m n c : ℕ) (ts ts′ ps ps′ ss ss′ es es′ : List ℕ) : Type 0 where
+  pub states : List ℕ
+  pub numbers : List ℕ
+  pub unpacked : Unpacked n es numbers ss states
+  pub target-array : Cleared (n * m) (c * m) ts ts′
+  pub priority-array : Cleared (n * m) (c * m) ps ps′
+  pub state-array : Cleared n c states ss′
+  pub number-array : Cleared n c numbers es′
 
 abbrev pub refusalOf : Explored → ℕ
 refusalOf (Rows n) = 0

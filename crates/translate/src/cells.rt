@@ -4,11 +4,11 @@ use explore::codes::INSIDE;
 use explore::codes::SPAN;
 use records::Record;
 ghost use mathlib.Core.Path.{_≡_};
-ghost use Prim.Native.Nat.{ℕ, suc, _*_, _<_, _≤_};
+ghost use Prim.Native.Nat.{ℕ, _+_, _*_, _<_, _≤_};
 ghost use lib.ListN.{length, getD};
-ghost use Rattle.rules.specs.Limits.{maxStates};
+ghost use Rattle.rules.specs.Limits.{maxStates, maxLetters};
 ghost use Rattle.tables.specs.Parts.{Listed};
-ghost use Rattle.explore.specs.Cells.{span, crossingKind};
+ghost use Rattle.explore.specs.Cells.{crossingKind};
 ghost use Rattle.translate.specs.Cells.{codeOf, codeIn, risingKey, CellsRoom, Written};
 
 // The code of a transition, by its target and marks, the home of its state and the pairs that count there.
@@ -36,38 +36,12 @@ fn cell_code(
     CROSSING + entries[state]
 }
 
-// Writes the codes of one state's cells.
-fn write_row(
-    n: usize,
-    m: usize,
-    targets: &[u16],
-    marks: &[u16],
-    homes: &[u16],
-    counted: &[u8],
-    entries: &[u32],
-    q: usize,
-    cells: &mut [u32],
-)
-    requires { ⌜ CellsRoom n m (now targets) (now marks) (now homes) (now counted) (now entries) × (q < n) × Written n m (codeIn n m (now targets) (now marks) (now homes) (now counted) (now entries)) (q * m) (now cells) ⌝ }
-    ensures { λ _. ⌜ Written n m (codeIn n m (now (targets .entry)) (now (marks .entry)) (now (homes .entry)) (now (counted .entry)) (now (entries .entry))) (suc q * m) (now (cells .exit)) ⌝ }
+// The state of cell c: the next one behind q where q's cells end.
+fn state_at(m: usize, q: usize, c: usize) -> usize
+    requires { ⌜ (0 < m) × (m ≤ maxLetters) × (q ≤ maxStates) × (c ≤ maxStates * maxLetters) × (q * m ≤ c) × (c ≤ q * m + m) ⌝ }
+    ensures { λ r. ⌜ (r * m ≤ c) × (c < r * m + m) ⌝ }
 {
-    let home = homes[q];
-    let pairs = counted[q];
-    let first = q * m;
-    let mut a = 0;
-    // the codes of the cells before the row and of its letters below a are written
-    while a < m {
-        cells[first + a] = cell_code(
-            n,
-            targets[first + a],
-            marks[first + a],
-            home,
-            pairs,
-            homes,
-            entries,
-        );
-        a += 1;
-    }
+    if c == q * m + m { q + 1 } else { q }
 }
 
 // Writes the codes of all cells.
@@ -82,19 +56,30 @@ pub(crate) fn write_codes(
     cells: &mut [u32],
 )
     requires { ⌜ CellsRoom n m (now targets) (now marks) (now homes) (now counted) (now entries) × (n * m ≤ length (now cells)) ⌝ }
-    ensures { λ _. ⌜ Written n m (codeIn n m (now (targets .entry)) (now (marks .entry)) (now (homes .entry)) (now (counted .entry)) (now (entries .entry))) (n * m) (now (cells .exit)) ⌝ }
+    ensures { λ _. ⌜ Written n m (codeIn n m (now (targets .entry)) (now (marks .entry)) (now (homes .entry)) (now (counted .entry)) (now (entries .entry))) (now (cells .exit)) ⌝ }
 {
+    let used = n * m;
     let mut q = 0;
-    // the codes of the states below q are written
-    while q < n {
-        write_row(n, m, targets, marks, homes, counted, entries, q, cells);
-        q += 1;
+    let mut c = 0;
+    // the codes of the cells below c are written, and c is a cell of q or follows them
+    while c < used {
+        q = state_at(m, q, c);
+        cells[c] = cell_code(
+            n,
+            targets[c],
+            marks[c],
+            homes[q],
+            counted[q],
+            homes,
+            entries,
+        );
+        c += 1;
     }
 }
 
 // Writes the key at which each state is entered: its pairs rising.
 pub(crate) fn write_entries(n: usize, counted: &[u8], entries: &mut [u32])
-    requires { ⌜ (n ≤ maxStates) × (n ≤ length (now counted)) × (n ≤ length (now entries)) × ((q : ℕ) → q < n → risingKey 0 (getD (now counted) q 0) < span) ⌝ }
+    requires { ⌜ (n ≤ maxStates) × (n ≤ length (now counted)) × (n ≤ length (now entries)) ⌝ }
     ensures { λ _. ⌜ Listed n (λ q. risingKey q (getD (now (counted .entry)) q 0)) (now (entries .exit)) ⌝ }
 {
     let mut q = 0;

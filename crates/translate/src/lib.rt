@@ -1,31 +1,25 @@
 // Translates a Rabin table into a parity table, by index appearance records.
 // It rests on `tables`, which checks a table, lays it out and says what counts where, and on `explore`, which finds the rows. `translate_table` keeps
 // the promise `TranslateSays` of the rules, and with it demand 3 of the arrays as they are left, `TranslationAgrees`.
+use crate::encode::FEW_BYTES;
+use crate::encode::FEW_CELLS;
+use crate::encode::MAX_CELLS;
 use explore::Explored;
+use explore::Rule;
+use explore::Task;
 use explore::are_short;
-use rules::limit::HEADER_SIZE;
-use rules::limit::MAX_LETTERS;
-use rules::limit::MAX_STATES;
+use explore::find_rows;
 use rules::refusal;
-use tables::lay_table;
 
 mod cells;
-mod clear;
+mod encode;
 mod rows;
 
 ghost use mathlib.Core.Path.{_≡_};
 ghost use Rattle.rules.specs.Says.{TranslateSays, TranslationAgrees};
-ghost use Prim.Native.Nat.{_≤_};
 ghost use lib.ListN.{length};
-ghost use Rattle.rules.specs.Tables.{tableOf};
-ghost use Rattle.tables.specs.Parts.{Taken};
-ghost use Rattle.translate.specs.Cells.{fewBytes, CellsFit};
+ghost use Rattle.translate.specs.Cells.{HasCells};
 ghost use Rattle.translate.specs.Rows.{refusalOf, rowsKept};
-
-// The cells for which small arrays are enough, and the bytes of a table with so many.
-const FEW_CELLS: usize = 64;
-
-const FEW_BYTES: usize = HEADER_SIZE + 3 * FEW_CELLS;
 
 // The refusal or 0, and the number of rows, 0 on a refusal.
 #[repr(C)]
@@ -56,10 +50,8 @@ fn rows_kept(explored: Explored) -> usize
     }
 }
 
-// Translates with lent arrays for the cells of the table: their targets, their marks and their codes.
+// Translates with a lent array for the codes of the table's cells.
 fn translate_in(
-    cell_targets: &mut [u16],
-    cell_marks: &mut [u16],
     cells: &mut [u32],
     table: &[u8],
     capacity: usize,
@@ -68,18 +60,16 @@ fn translate_in(
     sources: &mut [u8],
     records: &mut [u32],
 ) -> Translation
-    requires { ⌜ (Taken (now table) → CellsFit (tableOf (now table)) (length (now «cell_targets»)) (length (now «cell_marks»)) (length (now cells))) ⌝ }
+    requires { ⌜ HasCells (now table) (length (now cells)) ⌝ }
     ensures says { λ r. ⌜ TranslateSays (now (table .entry)) capacity (now (targets .entry)) (now (targets .exit)) (now (priorities .entry)) (now (priorities .exit)) (now (sources .entry)) (now (sources .exit)) (now (records .entry)) (now (records .exit)) (r .number) (r .rows) ⌝ }
     ensures agrees { λ r. ⌜ TranslationAgrees (now (table .entry)) (now (targets .exit)) (now (priorities .exit)) (now (sources .exit)) (r .number) (r .rows) ⌝ }
 {
-    let laid = lay_table(table, cell_targets, cell_marks);
-    if laid.number != 0 {
-        return Translation {
-            number: laid.number,
-            rows: 0,
-        };
+    let encoded = encode::encode_table(table, cells);
+    let number = encoded.number;
+    if number != 0 {
+        return Translation { number, rows: 0 };
     }
-    let m = laid.letters;
+    let m = encoded.letters;
     let short = are_short(
         capacity,
         m,
@@ -94,21 +84,20 @@ fn translate_in(
             rows: 0,
         };
     }
+    let rule = Rule::Pairs;
+    let letters = m as usize;
+    let start = encoded.start;
+    let task = Task {
+        rule,
+        letters,
+        start,
+    };
+    let used = encoded.used;
     // the keys of the rows stand in the array of record numbers until they are unpacked
-    let explored = rows::explore_table(
-        laid,
-        cell_targets,
-        cell_marks,
-        cells,
-        capacity,
-        records,
-        targets,
-        priorities,
-    );
+    let explored = find_rows(task, &cells[..used], capacity, records, targets, priorities);
     let rows = rows_kept(explored);
-    rows::unpack(rows, records, sources);
-    clear::clear_rows(
-        m as usize,
+    rows::leave_rows(
+        letters,
         rows,
         capacity,
         targets,
@@ -120,65 +109,7 @@ fn translate_in(
     Translation { number, rows }
 }
 
-// Translates a table of few bytes.
-fn translate_few(
-    table: &[u8],
-    capacity: usize,
-    targets: &mut [u16],
-    priorities: &mut [u8],
-    sources: &mut [u8],
-    records: &mut [u32],
-) -> Translation
-    requires { ⌜ length (now table) ≤ fewBytes ⌝ }
-    ensures says { λ r. ⌜ TranslateSays (now (table .entry)) capacity (now (targets .entry)) (now (targets .exit)) (now (priorities .entry)) (now (priorities .exit)) (now (sources .entry)) (now (sources .exit)) (now (records .entry)) (now (records .exit)) (r .number) (r .rows) ⌝ }
-    ensures agrees { λ r. ⌜ TranslationAgrees (now (table .entry)) (now (targets .exit)) (now (priorities .exit)) (now (sources .exit)) (r .number) (r .rows) ⌝ }
-{
-    let mut cell_targets = [0; FEW_CELLS];
-    let mut cell_marks = [0; FEW_CELLS];
-    let mut cells = [0; FEW_CELLS];
-    translate_in(
-        &mut cell_targets,
-        &mut cell_marks,
-        &mut cells,
-        table,
-        capacity,
-        targets,
-        priorities,
-        sources,
-        records,
-    )
-}
-
-// Translates any table.
-fn translate_many(
-    table: &[u8],
-    capacity: usize,
-    targets: &mut [u16],
-    priorities: &mut [u8],
-    sources: &mut [u8],
-    records: &mut [u32],
-) -> Translation
-    ensures says { λ r. ⌜ TranslateSays (now (table .entry)) capacity (now (targets .entry)) (now (targets .exit)) (now (priorities .entry)) (now (priorities .exit)) (now (sources .entry)) (now (sources .exit)) (now (records .entry)) (now (records .exit)) (r .number) (r .rows) ⌝ }
-    ensures agrees { λ r. ⌜ TranslationAgrees (now (table .entry)) (now (targets .exit)) (now (priorities .exit)) (now (sources .exit)) (r .number) (r .rows) ⌝ }
-{
-    let mut cell_targets = [0; MAX_STATES as usize * MAX_LETTERS as usize];
-    let mut cell_marks = [0; MAX_STATES as usize * MAX_LETTERS as usize];
-    let mut cells = [0; MAX_STATES as usize * MAX_LETTERS as usize];
-    translate_in(
-        &mut cell_targets,
-        &mut cell_marks,
-        &mut cells,
-        table,
-        capacity,
-        targets,
-        priorities,
-        sources,
-        records,
-    )
-}
-
-// The parity table of a Rabin table, in the lent arrays. For few cells clearing the arrays of all that a table can have would take longer than
-// the rest.
+// The parity table of a Rabin table, in the lent arrays. A table of few bytes has few cells.
 pub fn translate_table(
     table: &[u8],
     capacity: usize,
@@ -191,7 +122,25 @@ pub fn translate_table(
     ensures agrees { λ r. ⌜ TranslationAgrees (now (table .entry)) (now (targets .exit)) (now (priorities .exit)) (now (sources .exit)) (r .number) (r .rows) ⌝ }
 {
     if table.len() <= FEW_BYTES {
-        return translate_few(table, capacity, targets, priorities, sources, records);
+        let mut cells = [0; FEW_CELLS];
+        return translate_in(
+            &mut cells,
+            table,
+            capacity,
+            targets,
+            priorities,
+            sources,
+            records,
+        );
     }
-    translate_many(table, capacity, targets, priorities, sources, records)
+    let mut cells = [0; MAX_CELLS];
+    translate_in(
+        &mut cells,
+        table,
+        capacity,
+        targets,
+        priorities,
+        sources,
+        records,
+    )
 }

@@ -1,75 +1,16 @@
-// From a table to rows as keys, and from keys to what the caller is told of each row.
-use crate::cells::write_codes;
-use crate::cells::write_entries;
-use explore::Explored;
-use explore::Rule;
-use explore::Task;
+// From keys to what the caller is told of each row, and zeros behind the rows that are kept. Each `clear_` function clears the places from `from`
+// up to `to`, one function for each width and one array in a loop: two in one loop take three times as long.
 use explore::codes::SPAN;
-use explore::find_rows;
 use records::Record;
-use rules::limit::MAX_STATES;
-use tables::Laid;
-use tables::survey_cells;
 ghost use Prim.Native.Nat.{ℕ, _*_, _<_, _≤_};
 ghost use lib.ListN.{length, getD};
-ghost use Rattle.rules.specs.Limits.{maxRows};
-ghost use Rattle.rules.specs.Tables.{Table};
+ghost use Rattle.rules.specs.Limits.{maxLetters, maxRows};
+ghost use Rattle.rules.specs.Arrays.{Cleared};
 ghost use Rattle.explore.specs.Cells.{sourceIn};
-ghost use Rattle.translate.specs.Cells.{LaidTable};
-ghost use Rattle.translate.specs.Rows.{TableExplored, Unpacked};
-
-// Finds the rows of a laid-out table. The codes of the cells go into a lent array.
-pub(crate) fn explore_table(
-    laid: Laid,
-    cell_targets: &[u16],
-    cell_marks: &[u16],
-    cells: &mut [u32],
-    capacity: usize,
-    keys: &mut [u32],
-    targets: &mut [u16],
-    priorities: &mut [u8],
-) -> Explored
-    requires { ⌜ ((t : Table) × LaidTable t (laid .states) (laid .letters) (laid .start) (now «cell_targets») (now «cell_marks»)) × (laid .states * laid .letters ≤ length (now cells)) ⌝ }
-    ensures { λ r. ⌜ ((t : Table) → LaidTable t (laid .states) (laid .letters) (laid .start) (now («cell_targets» .entry)) (now («cell_marks» .entry)) → TableExplored t capacity (now (keys .entry)) (now (keys .exit)) (now (targets .entry)) (now (targets .exit)) (now (priorities .entry)) (now (priorities .exit)) r) ⌝ }
-{
-    let states = laid.states;
-    let letters = laid.letters as usize;
-    let first = laid.start;
-    let mut homes = [0; MAX_STATES as usize];
-    let mut counted = [0; MAX_STATES as usize];
-    let mut entries = [0; MAX_STATES as usize];
-    survey_cells(
-        states,
-        letters,
-        cell_targets,
-        cell_marks,
-        &mut homes,
-        &mut counted,
-    );
-    write_entries(states, &counted, &mut entries);
-    write_codes(
-        states,
-        letters,
-        cell_targets,
-        cell_marks,
-        &homes,
-        &counted,
-        &entries,
-        cells,
-    );
-    let used = states * letters;
-    let rule = Rule::Pairs;
-    let start = entries[first];
-    let task = Task {
-        rule,
-        letters,
-        start,
-    };
-    find_rows(task, &cells[..used], capacity, keys, targets, priorities)
-}
+ghost use Rattle.translate.specs.Rows.{Unpacked, RowsLeft};
 
 // Writes the source states of n rows, and their record numbers in place of their keys.
-pub(crate) fn unpack(n: usize, keys: &mut [u32], sources: &mut [u8])
+fn unpack(n: usize, keys: &mut [u32], sources: &mut [u8])
     requires { ⌜ (n ≤ maxRows) × (n ≤ length (now keys)) × (n ≤ length (now sources)) × ((i : ℕ) → i < n → sourceIn (getD (now keys) i 0) < 256) ⌝ }
     ensures { λ _. ⌜ Unpacked n (now (keys .entry)) (now (keys .exit)) (now (sources .entry)) (now (sources .exit)) ⌝ }
 {
@@ -82,4 +23,63 @@ pub(crate) fn unpack(n: usize, keys: &mut [u32], sources: &mut [u8])
         keys[i] = order.number();
         i += 1;
     }
+}
+
+// Clears a part of an array of bytes.
+fn clear_u8(array: &mut [u8], from: usize, to: usize)
+    requires { ⌜ (from ≤ to) × (to ≤ length (now array)) ⌝ }
+    ensures { λ _. ⌜ Cleared from to (now (array .entry)) (now (array .exit)) ⌝ }
+{
+    let mut i = from;
+    // the places from `from` up to i are cleared
+    while i < to {
+        array[i] = 0;
+        i += 1;
+    }
+}
+
+// Clears a part of an array of 16-bit numbers.
+fn clear_u16(array: &mut [u16], from: usize, to: usize)
+    requires { ⌜ (from ≤ to) × (to ≤ length (now array)) ⌝ }
+    ensures { λ _. ⌜ Cleared from to (now (array .entry)) (now (array .exit)) ⌝ }
+{
+    let mut i = from;
+    // the places from `from` up to i are cleared
+    while i < to {
+        array[i] = 0;
+        i += 1;
+    }
+}
+
+// Clears a part of an array of 32-bit numbers.
+fn clear_u32(array: &mut [u32], from: usize, to: usize)
+    requires { ⌜ (from ≤ to) × (to ≤ length (now array)) ⌝ }
+    ensures { λ _. ⌜ Cleared from to (now (array .entry)) (now (array .exit)) ⌝ }
+{
+    let mut i = from;
+    // the places from `from` up to i are cleared
+    while i < to {
+        array[i] = 0;
+        i += 1;
+    }
+}
+
+// Unpacks the first rows, and clears those behind them up to the capacity, in all four arrays of a parity table.
+pub(crate) fn leave_rows(
+    m: usize,
+    rows: usize,
+    capacity: usize,
+    targets: &mut [u16],
+    priorities: &mut [u8],
+    sources: &mut [u8],
+    records: &mut [u32],
+)
+    requires { ⌜ ((m ≤ maxLetters) × (rows ≤ capacity) × (capacity ≤ maxRows) × (capacity * m ≤ length (now targets)) × (capacity * m ≤ length (now priorities)) × (capacity ≤ length (now sources)) × (capacity ≤ length (now records))) × ((i : ℕ) → i < rows → sourceIn (getD (now records) i 0) < 256) ⌝ }
+    ensures { λ _. ⌜ RowsLeft m rows capacity (now (targets .entry)) (now (targets .exit)) (now (priorities .entry)) (now (priorities .exit)) (now (sources .entry)) (now (sources .exit)) (now (records .entry)) (now (records .exit)) ⌝ }
+{
+    unpack(rows, records, sources);
+    clear_u16(targets, rows * m, capacity * m);
+    clear_u8(priorities, rows * m, capacity * m);
+    clear_u8(sources, rows, capacity);
+    clear_u32(records, rows, capacity);
 }

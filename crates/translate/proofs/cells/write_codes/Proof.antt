@@ -1,43 +1,86 @@
--- `translate::cells::write_codes` meets its contract. The invariant: the codes of the states below q are written.
-use borrow.Author.Needs.{needs}
+-- `translate::cells::write_codes` meets its contract. The invariant: the codes of the cells below c are written, and c is a cell of q or follows them.
 use mathlib.Core.Path.{_≡_, refl, _∙_}
-use Prim.Native.Nat.{_-_, _*_, _≤_}
-use native.Mathlib.Nat.{le-antisymm, zero-mul}
-use native.Mathlib.Numerals.{add-one}
+use Prim.Native.Nat.{ℕ, _+_, _-_, _*_, _≤_, _<_}
+use native.Mathlib.Nat.{le-antisymm, mul-le-mul, lt-of-mul-lt-mul-left, lt-of-mul-lt-mul-right}
 use native.Mathlib.Omega.{arith}
-use lib.ListN.{length}
-use Rattle.translate.specs.Cells.{codeIn, Written}
-use Rattle.translate.proofs.CellCodes.{written-none}
+use lib.ListN.{length, getD}
+use Rattle.rules.specs.Limits.{maxStates, maxLetters}
+use Rattle.rules.specs.Systems.{cell}
+use Rattle.rules.proofs.Arrays.{cell-same, cell-within}
+use Rattle.rules.proofs.Filling.{Filled, filled-none, filled-more}
+use Rattle.translate.specs.Cells.{codeIn, CellsRoom}
+use Rattle.translate.proofs.CellCodes.{key-small}
 use Rattle.translate.proofs.cells.write_codes.Statement.{statement}
 use Rattle.translate.proofs.cells.write_codes.Tie as tie
 
 abbrev Inv-loop : tie.InvT-loop
-Inv-loop n m targets marks homes counted entries cells₀ q₀ cells q =
-    (q ≤ n) × Written n m (codeIn n m targets marks homes counted entries) (q * m) cells × (length cells ≡ length cells₀)
+Inv-loop n m targets marks homes counted entries cells₀ used q₀ c₀ cells q c =
+    (c ≤ used) × (q * m ≤ c) × (c ≤ q * m + m)
+    × Filled (λ i v. (p a : ℕ) → a < m → cell m p a ≡ i → v ≡ codeIn n m targets marks homes counted entries p a) cells₀ cells c
 
 abbrev μ-loop : tie.MeasureT-loop
-μ-loop n m targets marks homes counted entries cells₀ q₀ cells q = n - q
+μ-loop n m targets marks homes counted entries cells₀ used q₀ c₀ cells q c = used - c
 
-loop-holds : tie.Need-loop-holds Inv-loop μ-loop
-loop-holds c =
-    let s = c .before .before .before .before .before .before in
-    (omega arith, written-none _ _ _ _ _ (zero-mul _) (s .pre .1), refl)
+few : (s : tie.Start Inv-loop μ-loop) → s .args .n * s .args .m ≤ maxStates * maxLetters
+few s = mul-le-mul (s .pre .0 .few-states) (s .pre .0 .few-letters)
+
+-- a row that begins before the cell is a state's
+state-below : (c : tie.In-loop Inv-loop μ-loop) (q : ℕ) → let a = c .before .before .before .before .before .before .before .before .args in q * a .m ≤ c .before .loop .c → q < a .n
+state-below c q l = lt-of-mul-lt-mul-right (c .before .before .before .before .before .before .before .before .args .m) (omega (arith, l, c .loop-test .taken))
+
+-- the cell is one of the table's, and so is its state
+module _ (c : tie.After-state-at Inv-loop μ-loop) where
+  abbrev start : tie.Start Inv-loop μ-loop
+  start = c .before .before .before .before .before .before .before .before .before
+
+  abbrev i : ℕ
+  i = c .before .before .loop .c
+
+  abbrev q : ℕ
+  q = c .state-at .result
+
+  placed : let a = start .args in CellsRoom (a .n) (a .m) (a .targets .now) (a .marks .now) (a .homes .now) (a .counted .now) (a .entries .now) × (i < a .n * a .m) × (q < a .n) × (a .n * a .m ≤ maxStates * maxLetters)
+  placed = (start .pre .0, c .before .loop-test .taken, state-below (c .before) q (c .state-at .ensures .0), few start)
+
+  -- the cell has no other state and letter
+  same : (p a : ℕ) → a < start .args .m → cell (start .args .m) p a ≡ i → p ≡ q
+  same p a l e =
+      let m = start .args .m in
+      let here = c .state-at .ensures in cell-same m p q a (i - q * m) l (omega (arith, here)) (e ∙ omega (arith, here)) .0
+
+state-at-requires : tie.Need-state-at-requires Inv-loop μ-loop
+state-at-requires c κs =
+    let s = c .before .before .before .before .before .before .before .before in
+    let inv = c .before .loop .inv in
+    let low = state-below c (c .before .loop .q) (inv .1) in
+    (lt-of-mul-lt-mul-left (s .args .n) (omega (arith, c .loop-test .taken)), s .pre .0 .few-letters, omega (arith, low, s .pre .0 .few-states), omega (arith, few s, inv .0), inv .1, inv .2)
+
+cell-code-requires : tie.Need-cell-code-requires Inv-loop μ-loop
+cell-code-requires c κs =
+    let r = c .before .before .before .before .before .before .before .before .before .before .before .before .before .pre .0 in
+    (r .few-states, r .home-room, r .keys .enough, λ q l. omega (arith, r .few-states, r .keys .entry q l, key-small q (getD (c .before .before .before .before .before .before .before .before .before .before .before .before .before .args .counted .now) q 0)))
 
 loop-again : tie.Need-loop-again Inv-loop μ-loop
 loop-again c =
-    let i = c .before .before .before .before .before .loop in
-    let row = c .before .before .write-row in
-    (omega arith, rw (add-one (i .q)) (row .ensures), row .kept .1 .1 .1 .1 .1 .1 .1 .1 .0 ∙ i .inv .2)
+    let x = c .before .before .before .before .before in
+    let turn = c .before .before .before .before .before .before .before .loop in
+    let here = x .state-at .ensures in
+    (omega (arith, placed x), omega (arith, here), omega (arith, here), filled-more _ _ _ (turn .c) _ (omega (arith, placed x, c .before .before .before .before .before .before .before .before .before .before .before .before .before .before .pre .1)) (λ p a l e. rw (e, same x p a l e) (c .cell-code .ensures)) (turn .inv .3))
 
 returns : tie.Need-returns Inv-loop μ-loop
 returns c =
     let i = c .before .loop in
-    rw (le-antisymm (i .inv .0) (c .loop-test .left)) at (i .inv .1)
+    let f = rw (le-antisymm (i .inv .0) (c .loop-test .left)) at (i .inv .3) in
+    record { enough = omega (arith, c .before .before .before .before .before .before .before .before .pre .1, f .size); entry = λ q a l r. f .done _ (cell-within _ _ q a l r) q a r refl }
 
 pub write-codes-spec : {M : Type 1} → statement M
 write-codes-spec =
     tie.close
-    (tie.spec Inv-loop μ-loop loop-holds
-    (λ c κs. (c .before .before .before .before .before .before .before .before .before .pre .0, c .before .loop-test .taken, c .before .before .loop .inv .1))
-    (λ c. omega (arith, c .before .before .before .before .before .before .before .before .before .before .before .before .pre .0 .few-states))
-    (λ c. search needs) loop-again (λ c. c .before .loop .inv .2) returns)
+    (tie.spec Inv-loop μ-loop (λ c. omega (arith, few (c .before .before .before .before .before .before))) (λ c. (omega arith, omega arith, omega arith, filled-none _ _))
+    state-at-requires (λ c. omega (arith, placed c)) (λ c. omega (arith, placed (c .before))) (λ c. omega (arith, placed (c .before)))
+    (λ c. omega (arith, placed (c .before .before))) (λ c. omega (arith, placed (c .before .before)))
+    (λ c. omega (arith, placed (c .before .before .before))) (λ c. omega (arith, placed (c .before .before .before .before))) cell-code-requires
+    (λ c. omega (arith, placed (c .before .before .before .before .before)))
+    (λ c. omega (arith, placed (c .before .before .before .before .before), c .before .before .before .before .before .before .before .loop .inv .3 .size, c .before .before .before .before .before .before .before .before .before .before .before .before .before .before .pre .1))
+    (λ c. omega (arith, placed (c .before .before .before .before .before))) (λ c. omega (arith, placed (c .before .before .before .before .before))) loop-again
+    (λ c. c .before .loop .inv .3 .size) returns)

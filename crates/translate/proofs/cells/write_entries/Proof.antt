@@ -8,6 +8,7 @@ use lib.ListN.{getD}
 use Rattle.rules.proofs.Filling.{Filled, filled-none, filled-more}
 use Rattle.explore.specs.Cells.{keyOf, span}
 use Rattle.translate.specs.Cells.{risingKey}
+use Rattle.translate.proofs.CellCodes.{key-small}
 use Rattle.translate.proofs.cells.write_entries.Statement.{statement}
 use Rattle.translate.proofs.cells.write_entries.Tie as tie
 
@@ -26,7 +27,7 @@ module _ (c : tie.After-rising Inv-loop μ-loop) where
   small =
       let s = c .before .before .before .before .before .before in
       let l = c .before .before .loop-test .taken in
-      (omega (arith, c .rising .ensures, s .pre .3 q l), omega (arith, s .pre .0))
+      (omega (arith, c .rising .ensures, key-small 0 (getD (s .args .counted .now) q 0)), omega (arith, s .pre .0))
 
 loop-again : tie.Need-loop-again Inv-loop μ-loop
 loop-again c =

@@ -1,11 +1,11 @@
--- `translate::clear::clear_u16` meets its contract. The invariant: the places from `from` up to i are cleared.
+-- `translate::rows::clear_u32` meets its contract. The invariant: the places from `from` up to i are cleared.
 use Prim.Native.Nat.{_-_, _≤_}
 use native.Mathlib.Nat.{le-antisymm, le-refl}
 use native.Mathlib.Omega.{arith}
 use Rattle.rules.specs.Arrays.{Cleared}
 use Rattle.rules.proofs.Filling.{cleared-none, cleared-more}
-use Rattle.translate.proofs.clear.clear_u16.Statement.{statement}
-use Rattle.translate.proofs.clear.clear_u16.Tie as tie
+use Rattle.translate.proofs.rows.clear_u32.Statement.{statement}
+use Rattle.translate.proofs.rows.clear_u32.Tie as tie
 
 abbrev Inv-loop : tie.InvT-loop
 Inv-loop array₀ from to i₀ array i = (from ≤ i) × (i ≤ to) × Cleared from i array₀ array
@@ -22,8 +22,8 @@ loop-again c =
 returns : tie.Need-returns Inv-loop μ-loop
 returns c = let i = c .before .loop in rw (le-antisymm (i .inv .1) (c .loop-test .left)) at (i .inv .2)
 
-pub clear-u16-spec : {M : Type 1} → statement M
-clear-u16-spec =
+pub clear-u32-spec : {M : Type 1} → statement M
+clear-u32-spec =
     tie.close
     (tie.spec Inv-loop μ-loop (λ c. (le-refl (c .args .from), c .pre .0, cleared-none (c .args .from) (c .args .array .now))) (λ c. omega arith)
     (λ c. omega (arith, c .before .loop .inv .2 .size, c .before .before .pre .1)) (λ c. omega arith) (λ c. omega arith) loop-again

@@ -1,11 +1,11 @@
--- `translate::clear::clear_u8` meets its contract. The invariant: the places from `from` up to i are cleared.
+-- `translate::rows::clear_u8` meets its contract. The invariant: the places from `from` up to i are cleared.
 use Prim.Native.Nat.{_-_, _≤_}
 use native.Mathlib.Nat.{le-antisymm, le-refl}
 use native.Mathlib.Omega.{arith}
 use Rattle.rules.specs.Arrays.{Cleared}
 use Rattle.rules.proofs.Filling.{cleared-none, cleared-more}
-use Rattle.translate.proofs.clear.clear_u8.Statement.{statement}
-use Rattle.translate.proofs.clear.clear_u8.Tie as tie
+use Rattle.translate.proofs.rows.clear_u8.Statement.{statement}
+use Rattle.translate.proofs.rows.clear_u8.Tie as tie
 
 abbrev Inv-loop : tie.InvT-loop
 Inv-loop array₀ from to i₀ array i = (from ≤ i) × (i ≤ to) × Cleared from i array₀ array
