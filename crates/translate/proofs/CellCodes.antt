@@ -2,10 +2,10 @@
 --     lay-fault            with room for the cells of a table that is taken, laying out refuses nothing but the table
 --     few-cells, many-cells     there is such room in small arrays for a table of few bytes, in large ones for any
 --     LaidTable t n m start ts ms, laid-table     what is laid out of a table that is taken: its sizes and its start, and its cells in the arrays
---     key-small            the key at which a state is entered, by any set of pairs
+--     key-small, code-entered  the key at which a state is entered, by any set of pairs, and a code by such keys
 --     rising-marked        the rising pairs of a state, from the set of the pairs that count
 --     laid-fit, surveyed       there is room for the cells that are laid out where there is for the table's, and what a survey of them leaves
---     first-key, cells-room    the key of the first row, and that with the keys at which states are entered the codes can be written
+--     first-key, cells-room    the key of the first row, and room for the codes
 --     code-laid, codes-written the code that the laid-out cells give a transition is the table's, and so are those of all cells
 use mathlib.Core.Path.{_≡_, refl, sym, ap, _∙_}
 use mathlib.Core.Bool.{Bool, true, false, _&&_}
@@ -34,7 +34,7 @@ use Rattle.tables.specs.Parts.{Taken, Listed}
 use Rattle.tables.proofs.Laying.{targets-laid, marks-laid, laid-homes, laid-counted}
 use Rattle.tables.proofs.Surveying.{home-inside, listed}
 use Rattle.explore.specs.Cells.{span}
-use Rattle.translate.specs.Cells.{cutMarks, entryKey, cellCode, codeIn, risingKey, CellsRoom, Written, TableCodes, HasCells}
+use Rattle.translate.specs.Cells.{cutMarks, entryKey, cellCode, codeOf, codeIn, risingKey, CellsRoom, Written, TableCodes, HasCells}
 
 -- ---- room for the cells
 -- a refusal that is given only with another adds nothing
@@ -82,6 +82,10 @@ cut-by-bits t q marks b l h =
     (λ j lj. bit-and j marks (countedPairs t q) ∙ rw (h j, as-bits-at (λ i. counts t q (suc i)) (t .pairs) j lj))
 
 -- ---- rising pairs
+-- keys that agree on all states give the same codes
+pub code-entered : (n x w h k : ℕ) (hs : List ℕ) (e f : ℕ → ℕ) → ((q : ℕ) → q < n → e q ≡ f q) → codeOf n x w h k hs e ≡ codeOf n x w h k hs f
+code-entered n x w h k hs e f same = by (leb n x) (λ z. rw z) (λ z. rw (same x (leb-false n x z)))
+
 -- two tests that agree on the first k of n numbers, of which the first fails on all others
 kept-within : (b c : ℕ → Bool) (n k i : ℕ) → k ≤ n → ((j : ℕ) → i ≤ j → j < i + k → b j ≡ c j) → ((j : ℕ) → i + k ≤ j → b j ≡ false)
     → keep b (tabulate n i (λ j. j)) ≡ keep c (tabulate k i (λ j. j))
@@ -142,22 +146,19 @@ module _ {t : Table} {states letters start : ℕ} {ts ms : List ℕ} (good : IsT
       let sets = listed n (countedIn n m ts ms) cs cs′ (omega arith) (rw e at (s .counted-array)) in
       (laid-homes t good ts (x .targets) hs hs′ (omega arith) (rw e at (s .home-array)), record { enough = sets .enough; entry = λ q l. sets .entry q l ∙ laid-counted t good ts (x .targets) ms (x .marks) q l })
 
-  module _ {hs cs es : List ℕ} (hl : Listed n (componentOf (systemOf t)) hs) (cl : Listed n (countedPairs t) cs) (el : Listed states (λ q. risingKey q (getD cs q 0)) es) where
-    keys : Listed n (λ q. risingKey q (getD cs q 0)) es
-    keys = rw (x .states) at el
+  module _ {hs cs : List ℕ} (hl : Listed n (componentOf (systemOf t)) hs) (cl : Listed n (countedPairs t) cs) where
+    key-is : (q : ℕ) → q < n → risingKey q (getD cs q 0) ≡ entryKey t q
+    key-is q l = rw (cl .entry q l, rising-marked t q (good .few-pairs))
 
-    key-is : (q : ℕ) → q < n → getD es q 0 ≡ entryKey t q
-    key-is q l = keys .entry q l ∙ rw (cl .entry q l, rising-marked t q (good .few-pairs))
-
-    pub first-key : getD es start 0 ≡ entryKey t (t .start)
+    pub first-key : risingKey start (getD cs start 0) ≡ entryKey t (t .start)
     first-key = rw (x .start-state) (key-is (t .start) (good .start-state))
 
-    pub cells-room : CellsRoom states letters ts ms hs cs es
+    pub cells-room : CellsRoom states letters ts ms hs cs
     cells-room =
         rw (x .states, x .letters)
-        (record { few-states = good .few-states; few-letters = good .few-letters; target-room = x .targets .enough; mark-room = x .marks .enough; home-room = hl .enough; set-room = cl .enough; keys = keys })
+        (record { few-states = good .few-states; few-letters = good .few-letters; target-room = x .targets .enough; mark-room = x .marks .enough; home-room = hl .enough; set-room = cl .enough })
 
-    pub code-laid : (q a : ℕ) → q < n → a < m → codeIn n m ts ms hs cs es q a ≡ cellCode t q a
+    pub code-laid : (q a : ℕ) → q < n → a < m → codeIn n m ts ms hs cs q a ≡ cellCode t q a
     unfolding cellCode
     code-laid q a l r =
         by (leb n end) (λ f. rw (x .targets .entry q a l r, wide-missing n end (good .few-states) f, f)) (λ f. there f (leb-false n end f))
@@ -183,14 +184,14 @@ module _ {t : Table} {states letters start : ℕ} {ts ms : List ℕ} (good : IsT
         same : (i : ℕ) → suc i - 1 ≡ i
         same i = omega arith
 
-        there : leb n end ≡ false → end < n → codeIn n m ts ms hs cs es q a ≡ cellCode t q a
+        there : leb n end ≡ false → end < n → codeIn n m ts ms hs cs q a ≡ cellCode t q a
         there f lx =
             let inside : eqb (getD hs end 0) (getD hs q 0) ≡ isInside (systemOf t) q a = (rw (lt-ltb end n lx) at (home-inside (systemOf t) hs hl q a l)) in
             let cut-p = cut-by-bits t q p (prohibits t q a) (small .0) (λ i. rw (same i)) in
             let cut-u = cut-by-bits t q u (requires t q a) (small .1) (λ i. rw (same i)) in
             rw (x .targets .entry q a l r, wide-there n end (good .few-states) lx, f, inside, parts .0, parts .1, cl .entry q l, cut-p, cut-u, key-is end lx)
 
-    pub codes-written : (cells : List ℕ) → Written states letters (codeIn states letters ts ms hs cs es) cells
+    pub codes-written : (cells : List ℕ) → Written states letters (codeIn states letters ts ms hs cs) cells
         → (states * letters ≤ length cells) × TableCodes t (take (states * letters) cells)
     codes-written cells written =
         let w = rw (x .states, x .letters) at written in

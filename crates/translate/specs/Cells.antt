@@ -3,11 +3,11 @@
 --     entryKey t q         the key of the row by which a crossing enters at q
 --     cellCode t q a       the code of the transition of q by a
 --     taskOf t             what is explored
---     codeOf n x w h k hs es     the code of a transition with target x and marks w, where h is the home of its state and k the pairs that count there, by
---                                the homes hs of all states and the keys es at which they are entered
+--     codeOf n x w h k hs e      the code of a transition with target x and marks w, where h is the home of its state and k the pairs that count there, by
+--                                the homes hs of all states and the keys e at which they are entered
 --     codeIn n m .. q a    the code of the transition of q by a, by the laid-out cells
 --     risingKey q k        the key of the row at q with the pairs of the set k, rising
---     CellsRoom n m ..     the arrays have an entry for each cell or each state, and the keys are those at which the states are entered
+--     CellsRoom n m ..     the sizes are in range, and the arrays have an entry for each cell or each state
 --     Written n m f cells  the cells hold what f says of their state and letter
 --     TableCodes t cells   the codes of all cells, and nothing behind them
 --     HasCells bs k        an array of k entries has room for the cells of the table that the bytes say, if it is taken
@@ -26,7 +26,7 @@ use Rattle.rules.specs.Systems.{isInside, cell}
 use Rattle.rules.specs.Rows.{row}
 use Rattle.rules.specs.Tables.{Table, tableOf, tableFault, systemOf, targetOf, prohibits, requires, counts, rising}
 use Rattle.records.specs.Words.{limit, isMarked, packed}
-use Rattle.tables.specs.Parts.{Taken, Listed}
+use Rattle.tables.specs.Parts.{Taken}
 use Rattle.explore.specs.declared.Task.{Task}
 use Rattle.explore.specs.declared.Rule.the-variants.{Pairs}
 use Rattle.explore.specs.Cells.{keyOf, crossingCode, insideCode}
@@ -47,24 +47,24 @@ abbrev pub taskOf : Table → Task
 taskOf t = record { rule = Pairs; letters = t .letters; start = entryKey t (t .start) }
 
 -- codes by the laid-out cells
-abbrev pub codeOf : ℕ → ℕ → ℕ → ℕ → ℕ → List ℕ → List ℕ → ℕ
-codeOf n x w h k hs es =
-    pick (leb n x) 0 (pick (eqb (getD hs x 0) h) (insideCode x (bitAnd (w % 256) k + 256 * bitAnd (w / 256) k)) (crossingCode (getD es x 0)))
-
-abbrev pub codeIn : ℕ → ℕ → List ℕ → List ℕ → List ℕ → List ℕ → List ℕ → ℕ → ℕ → ℕ
-codeIn n m ts ms hs cs es q a = codeOf n (getD ts (cell m q a) 0) (getD ms (cell m q a) 0) (getD hs q 0) (getD cs q 0) hs es
+abbrev pub codeOf : ℕ → ℕ → ℕ → ℕ → ℕ → List ℕ → (ℕ → ℕ) → ℕ
+codeOf n x w h k hs e =
+    pick (leb n x) 0 (pick (eqb (getD hs x 0) h) (insideCode x (bitAnd (w % 256) k + 256 * bitAnd (w / 256) k)) (crossingCode (e x)))
 
 abbrev pub risingKey : ℕ → ℕ → ℕ
 risingKey q k = keyOf q (packed (keep (isMarked k) (tabulate limit 1 (λ i. i))))
 
-pub record CellsRoom (n m : ℕ) (ts ms hs cs es : List ℕ) : Type 0 where
+abbrev pub codeIn : ℕ → ℕ → List ℕ → List ℕ → List ℕ → List ℕ → ℕ → ℕ → ℕ
+codeIn n m ts ms hs cs q a =
+    codeOf n (getD ts (cell m q a) 0) (getD ms (cell m q a) 0) (getD hs q 0) (getD cs q 0) hs (λ x. risingKey x (getD cs x 0))
+
+pub record CellsRoom (n m : ℕ) (ts ms hs cs : List ℕ) : Type 0 where
   pub few-states : n ≤ maxStates
   pub few-letters : m ≤ maxLetters
   pub target-room : n * m ≤ length ts
   pub mark-room : n * m ≤ length ms
   pub home-room : n ≤ length hs
   pub set-room : n ≤ length cs
-  pub keys : Listed n (λ q. risingKey q (getD cs q 0)) es
 
 pub record Written (n m : ℕ) (f : ℕ → ℕ → ℕ) (cells : List ℕ) : Type 0 where
   pub enough : n * m ≤ length cells

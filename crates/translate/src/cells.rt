@@ -3,6 +3,7 @@ use explore::codes::CROSSING;
 use explore::codes::INSIDE;
 use explore::codes::SPAN;
 use records::Record;
+use rules::limit::MAX_STATES;
 ghost use mathlib.Core.Path.{_≡_};
 ghost use Prim.Native.Nat.{ℕ, _+_, _*_, _<_, _≤_};
 ghost use lib.ListN.{length, getD};
@@ -22,7 +23,7 @@ fn cell_code(
     entries: &[u32],
 ) -> u32
     requires { ⌜ (n ≤ maxStates) × (n ≤ length (now homes)) × (n ≤ length (now entries)) × ((q : ℕ) → q < n → getD (now entries) q 0 < crossingKind) ⌝ }
-    ensures { λ r. ⌜ r ≡ codeOf n target marks home counted (now (homes .entry)) (now (entries .entry)) ⌝ }
+    ensures { λ r. ⌜ r ≡ codeOf n target marks home counted (now (homes .entry)) (λ q. getD (now (entries .entry)) q 0) ⌝ }
 {
     let state = target as usize;
     if n <= state {
@@ -44,20 +45,36 @@ fn state_at(m: usize, q: usize, c: usize) -> usize
     if c == q * m + m { q + 1 } else { q }
 }
 
-// Writes the codes of all cells.
+// Writes the key at which each state is entered: its pairs rising.
+fn write_entries(n: usize, counted: &[u8], entries: &mut [u32])
+    requires { ⌜ (n ≤ maxStates) × (n ≤ length (now counted)) × (n ≤ length (now entries)) ⌝ }
+    ensures { λ _. ⌜ Listed n (λ q. risingKey q (getD (now (counted .entry)) q 0)) (now (entries .exit)) ⌝ }
+{
+    let mut q = 0;
+    // the keys of the states below q are written
+    while q < n {
+        let order = Record::rising(counted[q]);
+        entries[q] = q as u32 * SPAN + order.word;
+        q += 1;
+    }
+}
+
+// Writes the codes of all cells. The result is the key at which the first state is entered.
 pub(crate) fn write_codes(
     n: usize,
     m: usize,
+    first: usize,
     targets: &[u16],
     marks: &[u16],
     homes: &[u16],
     counted: &[u8],
-    entries: &[u32],
     cells: &mut [u32],
-)
-    requires { ⌜ CellsRoom n m (now targets) (now marks) (now homes) (now counted) (now entries) × (n * m ≤ length (now cells)) ⌝ }
-    ensures { λ _. ⌜ Written n m (codeIn n m (now (targets .entry)) (now (marks .entry)) (now (homes .entry)) (now (counted .entry)) (now (entries .entry))) (now (cells .exit)) ⌝ }
+) -> u32
+    requires { ⌜ CellsRoom n m (now targets) (now marks) (now homes) (now counted) × (first < n) × (n * m ≤ length (now cells)) ⌝ }
+    ensures { λ r. ⌜ (r ≡ risingKey first (getD (now (counted .entry)) first 0)) × Written n m (codeIn n m (now (targets .entry)) (now (marks .entry)) (now (homes .entry)) (now (counted .entry))) (now (cells .exit)) ⌝ }
 {
+    let mut entries = [0; MAX_STATES as usize];
+    write_entries(n, counted, &mut entries);
     let used = n * m;
     let mut q = 0;
     let mut c = 0;
@@ -71,22 +88,9 @@ pub(crate) fn write_codes(
             homes[q],
             counted[q],
             homes,
-            entries,
+            &entries,
         );
         c += 1;
     }
-}
-
-// Writes the key at which each state is entered: its pairs rising.
-pub(crate) fn write_entries(n: usize, counted: &[u8], entries: &mut [u32])
-    requires { ⌜ (n ≤ maxStates) × (n ≤ length (now counted)) × (n ≤ length (now entries)) ⌝ }
-    ensures { λ _. ⌜ Listed n (λ q. risingKey q (getD (now (counted .entry)) q 0)) (now (entries .exit)) ⌝ }
-{
-    let mut q = 0;
-    // the keys of the states below q are written
-    while q < n {
-        let order = Record::rising(counted[q]);
-        entries[q] = q as u32 * SPAN + order.word;
-        q += 1;
-    }
+    entries[first]
 }

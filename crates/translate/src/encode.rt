@@ -1,6 +1,5 @@
 // From the bytes of a table to a task for the exploration: a code for each cell, and the key of the first row.
 use crate::cells::write_codes;
-use crate::cells::write_entries;
 use rules::limit::HEADER_SIZE;
 use rules::limit::MAX_LETTERS;
 use rules::limit::MAX_STATES;
@@ -48,27 +47,24 @@ fn encode_in(
     }
     let n = laid.states;
     let m = laid.letters as usize;
-    let first = laid.start;
     let mut homes = [0; MAX_STATES as usize];
     let mut counted = [0; MAX_STATES as usize];
-    let mut entries = [0; MAX_STATES as usize];
     survey_cells(n, m, cell_targets, cell_marks, &mut homes, &mut counted);
-    write_entries(n, &counted, &mut entries);
-    write_codes(
+    let start = write_codes(
         n,
         m,
+        laid.start,
         cell_targets,
         cell_marks,
         &homes,
         &counted,
-        &entries,
         cells,
     );
     Encoded {
         number: 0,
         letters: laid.letters,
         used: n * m,
-        start: entries[first],
+        start,
     }
 }
 
