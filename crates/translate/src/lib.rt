@@ -28,25 +28,20 @@ pub struct Translation {
     pub rows: usize,
 }
 
-// The refusal of an exploration's answer.
-fn refusal_of(explored: Explored) -> u8
-    ensures { λ r. ⌜ r ≡ refusalOf explored ⌝ }
+// What an exploration's answer says: its refusal and how many rows are kept, none where there are more than the capacity.
+fn told(explored: Explored) -> Translation
+    ensures { λ r. ⌜ (r .number ≡ refusalOf explored) × (r .rows ≡ rowsKept explored) ⌝ }
 {
     match explored {
-        Explored::Rows(_) => 0,
-        Explored::Full => refusal::FULL,
-        Explored::Unfit => refusal::ARRAYS,
-    }
-}
-
-// How many rows are kept: none where there are more than the capacity.
-fn rows_kept(explored: Explored) -> usize
-    ensures { λ r. ⌜ r ≡ rowsKept explored ⌝ }
-{
-    match explored {
-        Explored::Rows(n) => n,
-        Explored::Full => 0,
-        Explored::Unfit => 0,
+        Explored::Rows(rows) => Translation { number: 0, rows },
+        Explored::Full => Translation {
+            number: refusal::FULL,
+            rows: 0,
+        },
+        Explored::Unfit => Translation {
+            number: refusal::ARRAYS,
+            rows: 0,
+        },
     }
 }
 
@@ -79,10 +74,8 @@ fn translate_in(
         records.len(),
     );
     if short {
-        return Translation {
-            number: refusal::ARRAYS,
-            rows: 0,
-        };
+        let number = refusal::ARRAYS;
+        return Translation { number, rows: 0 };
     }
     let rule = Rule::Pairs;
     let letters = m as usize;
@@ -95,7 +88,9 @@ fn translate_in(
     let used = encoded.used;
     // the keys of the rows stand in the array of record numbers until they are unpacked
     let explored = find_rows(task, &cells[..used], capacity, records, targets, priorities);
-    let rows = rows_kept(explored);
+    let told = told(explored);
+    let number = told.number;
+    let rows = told.rows;
     rows::leave_rows(
         letters,
         rows,
@@ -105,7 +100,6 @@ fn translate_in(
         sources,
         records,
     );
-    let number = refusal_of(explored);
     Translation { number, rows }
 }
 

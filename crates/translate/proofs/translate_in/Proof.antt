@@ -43,19 +43,20 @@ leave-rows-requires : tie.Need-leave-rows-requires
 leave-rows-requires c κs =
     let e = c .before .before .before .before .before .before .before .before .before .before .before .before .before .before .before .before .before .before in
     let x = c .before .before .before .before .before .before .before .before .before .before .before .find-rows in
-    let n = c .before .before .before .before .rows-kept .ensures in
+    let n = c .before .before .before .before .told .ensures .1 in
     let room = enough (c .before .before .before .before .before .before .before .before .before .before .before .before .before .before .before .before) in
     let few = kept-few _ _ _ _ _ (lent e .args .sources .now) _ (is-taken e) (task e .0) room (task e .1) (task e .3) (x .ensures) n in
     (omega (arith, room, few, task e .0, taken-table _ (is-taken e), x .kept), kept-sources _ _ _ _ _ (lent e .args .sources .now) _ (is-taken e) (task e .0) room (task e .1) (task e .3) (x .ensures) n)
 
 returns-3 : tie.Need-returns-3
 returns-3 c =
-    let e = c .before .before .before .before .before .before .before .before .before .before .before .before .before .before .before .before .before .before .before .before .before .before .before .before .before .before .before .before in
-    promised (translate-explored _ _ _ _ _ _ _ (is-taken e) (task e .0) (enough (c .before .before .before .before .before .before .before .before .before .before .before .before .before .before .before .before .before .before .before .before .before .before .before .before .before .before)) (task e .1) (task e .3) (c .before .before .before .before .before .before .before .before .before .before .before .before .before .before .before .before .before .before .before .before .before .find-rows .ensures) (c .refusal-of .ensures) (c .before .before .before .before .before .before .before .before .before .before .before .before .before .before .rows-kept .ensures) (c .before .before .before .before .before .before .before .before .before .leave-rows .ensures))
+    let e = c .before .before .before .before .before .before .before .before .before .before .before .before .before .before .before .before .before .before .before .before .before .before .before .before .before .before .before in
+    let told = c .before .before .before .before .before .before .before .before .before .before .before .before .before .told .ensures in
+    promised (translate-explored _ _ _ _ _ _ _ (is-taken e) (task e .0) (enough (c .before .before .before .before .before .before .before .before .before .before .before .before .before .before .before .before .before .before .before .before .before .before .before .before .before)) (task e .1) (task e .3) (c .before .before .before .before .before .before .before .before .before .before .before .before .before .before .before .before .before .before .before .before .find-rows .ensures) (told .0) (told .1) (c .before .before .before .before .before .before .before .before .leave-rows .ensures))
 
 pub translate-in-spec : {M : Type 1} → statement M
 translate-in-spec =
     tie.close
     (tie.spec (λ c κs. search needs) (λ c. search needs) returns (λ c κs. search needs) (λ c. search needs) returns-2 (λ c. search needs)
-    (λ c. task (c .before .before) .2) slice-aggregate-find-rows (λ c κs. search needs) (λ c κs. search needs) leave-rows-requires
-    (λ c κs. search needs) (λ c. search needs) (λ c. search needs) (λ c. search needs) (λ c. search needs) (λ c. search needs) returns-3)
+    (λ c. task (c .before .before) .2) slice-aggregate-find-rows (λ c κs. search needs) (λ c κs. search needs) leave-rows-requires (λ c. search needs)
+    (λ c. search needs) (λ c. search needs) (λ c. search needs) (λ c. search needs) returns-3)
