@@ -7,7 +7,7 @@
 --     laid-fit, surveyed       there is room for the cells that are laid out where there is for the table's, and what a survey of them leaves
 --     first-key, cells-room    the key of the first row, and room for the codes
 --     code-laid, codes-written the code that the laid-out cells give a transition is the table's, and so are those of all cells
-use mathlib.Core.Path.{_≡_, refl, sym, ap, _∙_}
+use mathlib.Core.Path.{_≡_, refl, ap, _∙_}
 use mathlib.Core.Bool.{Bool, true, false, _&&_}
 use mathlib.Core.List.{List}
 use Prim.Native.Nat.{ℕ, zero, suc, _+_, _-_, _*_, _/_, _%_, _^_, _≤_, _<_}

@@ -5,25 +5,25 @@
 --     translate-explored       the rows were looked for, and the arrays cleared behind those that are kept
 --     promised                 both promises, from the first
 use mathlib.Core.Path.{_≡_, refl, sym, ap, _∙_}
-use mathlib.Core.Bool.{Bool, true, false, _||_}
+use mathlib.Core.Bool.{true, false}
 use mathlib.Core.List.{List, [], append-nil, map}
 use Prim.Native.Nat.{ℕ, zero, suc, _*_, _<_, _≤_}
 use native.Mathlib.Nat.{zero-mul, mul-le-mul-right}
 use native.Mathlib.Omega.{arith}
-use lib.Dec.{eqb, eqb·suc-zero, ltb}
+use lib.Dec.{eqb·suc-zero}
 use lib.ListN.{length, getD, length-map}
-use borrow.Author.Tests.{ne-eqb, ltb-false, le-ltb}
-use Rattle.rules.specs.Basics.{pick, firstOf}
+use borrow.Author.Tests.{ne-eqb, ltb-false}
+use Rattle.rules.specs.Basics.{pick}
 use Rattle.rules.specs.Arrays.{Beyond, Cleared}
 use Rattle.rules.specs.Codings.{Codes}
-use Rattle.rules.specs.Limits.{maxStates, maxLetters, maxRows, noRow}
+use Rattle.rules.specs.Limits.{noRow}
 use Rattle.rules.specs.Refusals as Refusal
 use Rattle.rules.specs.Records.{decimal}
 use Rattle.rules.specs.Rows.{Row, Plan, rowsOf, isFull}
 use Rattle.rules.specs.Tables.{Table, tableOf, tableFault, tablePlan}
 use Rattle.rules.specs.Claims.{targets, priorities, sourceStates, recordNumbers}
 use Rattle.rules.specs.Says.{areShort, translateFault, padded, afterwards, TranslateSays, TranslationAgrees}
-use Rattle.rules.proofs.Bools.{by, or-none}
+use Rattle.rules.proofs.Bools.{by}
 use Rattle.rules.proofs.Arrays.{getD-any, cells-length, mapped-at}
 use Rattle.rules.proofs.Coding.{all-at, row-coded, rows-coded, rows-good, full-coded, targets-coded, priorities-coded}
 use Rattle.rules.proofs.Filling.{beyond-then, beyond-wider, over-front, over-beyond, padded-is, filled-is, cleared-is}

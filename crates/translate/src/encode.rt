@@ -5,7 +5,6 @@ use rules::limit::MAX_LETTERS;
 use rules::limit::MAX_STATES;
 use tables::lay_table;
 use tables::survey_cells;
-ghost use Prim.Native.Nat.{_≤_};
 ghost use lib.ListN.{length};
 ghost use Rattle.translate.specs.Cells.{HasCells, EncodeSays};
 

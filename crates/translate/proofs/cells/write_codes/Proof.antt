@@ -4,7 +4,7 @@ use mathlib.Core.Path.{_≡_, refl, _∙_}
 use Prim.Native.Nat.{ℕ, _+_, _-_, _*_, _≤_, _<_}
 use native.Mathlib.Nat.{le-antisymm, mul-le-mul, lt-of-mul-lt-mul-left, lt-of-mul-lt-mul-right}
 use native.Mathlib.Omega.{arith}
-use lib.ListN.{length, getD}
+use lib.ListN.{getD}
 use Rattle.rules.specs.Limits.{maxStates, maxLetters}
 use Rattle.rules.specs.Systems.{cell}
 use Rattle.rules.proofs.Arrays.{cell-same, cell-within}
@@ -69,7 +69,11 @@ loop-again c =
     let here = x .state-at .ensures in
     let a = c .before .before .before .before .before .before .before .before .before .before .before .before .before .before .before .before .before .args in
     let keys = c .before .before .before .before .before .before .before .before .before .before .write-entries in
-    let entered = code-entered (a .n) (getD (a .targets .now) (turn .c) 0) (getD (a .marks .now) (turn .c) 0) (getD (a .homes .now) (q x) 0) (getD (a .counted .now) (q x) 0) (a .homes .now) (λ y. getD (keys .last .1 .1 .0) y 0) (λ y. risingKey y (getD (a .counted .now) y 0)) (keys .ensures .entry) in
+    let ts = a .targets .now in
+    let ms = a .marks .now in
+    let hs = a .homes .now in
+    let cs = a .counted .now in
+    let entered = code-entered (a .n) (getD ts (turn .c) 0) (getD ms (turn .c) 0) (getD hs (q x) 0) (getD cs (q x) 0) hs (λ y. getD (keys .last .1 .1 .0) y 0) (λ y. risingKey y (getD cs y 0)) (keys .ensures .entry) in
     (omega (arith, placed x), omega (arith, here), omega (arith, here), filled-more _ _ _ (turn .c) _ (omega (arith, placed x, c .before .before .before .before .before .before .before .before .before .before .before .before .before .before .before .before .before .pre .2)) (λ p b l e. rw (e, same x p b l e) (c .cell-code .ensures ∙ entered)) (turn .inv .3))
 
 returns : tie.Need-returns Inv-loop μ-loop

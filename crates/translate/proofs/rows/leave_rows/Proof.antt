@@ -12,7 +12,9 @@ cells-before s = mul-le-mul-right (s .args .m) (s .pre .0 .1)
 pub leave-rows-spec : {M : Type 1} → statement M
 leave-rows-spec =
     tie.close
-    (tie.spec (λ c κs. search needs) (λ c. omega (arith, cells-before (c .before .before .before .before .before .before .before .before .before .before .before .before))) (λ c. search needs)
-    (λ c κs. omega (arith, cells-before (c .before .before .before .before .before .before .before .before .before .before .before .before))) (λ c. omega (arith, cells-before (c .before .before .before .before .before .before .before .before .before .before .before .before .before .before .before .before)))
-    (λ c. search needs) (λ c κs. omega (arith, cells-before (c .before .before .before .before .before .before .before .before .before .before .before .before .before .before .before .before))) (λ c κs. search needs) (λ c κs. search needs)
-    (λ c. search needs) (λ c. search needs) (λ c. search needs) (λ c. search needs) (λ c. search needs))
+    (tie.spec (λ c κs. search needs) (λ c. omega (arith, cells-before (c .before .before .before .before .before .before .before .before .before .before .before .before)))
+    (λ c. search needs) (λ c κs. omega (arith, cells-before (c .before .before .before .before .before .before .before .before .before .before .before .before)))
+    (λ c. omega (arith, cells-before (c .before .before .before .before .before .before .before .before .before .before .before .before .before .before .before .before)))
+    (λ c. search needs)
+    (λ c κs. omega (arith, cells-before (c .before .before .before .before .before .before .before .before .before .before .before .before .before .before .before .before)))
+    (λ c κs. search needs) (λ c κs. search needs) (λ c. search needs) (λ c. search needs) (λ c. search needs) (λ c. search needs) (λ c. search needs))
