@@ -1,6 +1,6 @@
 -- What holds where sizes and arrays fit.
 --     components-room    a search for components has room
---     components-tested, reach-tested     what the code tests
+--     components-tested  what the code tests
 --     reach-room         a search from a state has room, and begins at a state
 use mathlib.Core.Path.{_≡_, refl}
 use mathlib.Core.Bool.{Bool, true, _&&_}
@@ -38,12 +38,8 @@ components-tested n m targets work out b e = rw (e, fifth (length work)) refl
     fifth : (k : ℕ) → leb n (k / 5) ≡ leb (5 * n) k
     fifth k = bool-ext (leb n (k / 5)) (leb (5 * n) k) (λ h. le-leb (5 * n) k (omega (arith, leb-true n (k / 5) h))) (λ h. le-leb n (k / 5) (omega (arith, leb-true (5 * n) k h)))
 
-pub reach-tested : (n m from : ℕ) (targets numbers queue parents by : List ℕ) (b : Bool) → b ≡ cellsFit n m (length targets)
-    → b && (leb m 256 && (ltb from n && (leb n (length numbers) && (leb n (length queue) && (leb n (length parents) && leb n (length by))))))
-    ≡ reachFits n m from targets numbers queue parents by
-reach-tested n m from targets numbers queue parents by b e = rw e refl
-
-pub reach-room : (n m from : ℕ) (targets numbers queue parents by : List ℕ) → reachFits n m from targets numbers queue parents by ≡ true
+pub reach-room : (n m from : ℕ) (targets numbers queue parents by : List ℕ)
+    → reachFits n m from (length targets) (length numbers) (length queue) (length parents) (length by) ≡ true
     → ReachRoom (paritySystem n m targets) targets numbers queue parents by × (from < n)
 reach-room n m from targets numbers queue parents by h =
     let q = leb n (length queue) && (leb n (length parents) && leb n (length by)) in

@@ -2,7 +2,7 @@
 --     cellsFit n m t           n states and m letters are few enough, and t targets are enough for their cells
 --     componentsFit n m ..     a search for components can begin: sizes, targets, five entries for each state to work in, and room for the results
 --     ComponentsFound n m ..   the smallest state of each state's component at the front of `out`, entries past the states untouched
---     reachFits n m ..         a search from a state can begin
+--     reachFits n m from t ..  a search from a state can begin: sizes, t targets, and the lengths of four arrays
 --     ReachFound n m from ..   exactly the states that `from` reaches are met, each with the place that it was met from and the letter;
 --                              entries past the states, and past those met, untouched
 --     PathFound place ..       where a search has left parents and letters: the end of `out`, from the result on, is a path to the state at the place
@@ -30,14 +30,14 @@ pub record ComponentsFound (n m : ℕ) (targets work out out′ : List ℕ) (r :
   pub answer : r ≡ componentsFit n m targets work out
   pub array : out′ ≡ pick r (over (tabulate n 0 (componentOf (paritySystem n m targets))) out) out
 
-abbrev pub reachFits : ℕ → ℕ → ℕ → List ℕ → List ℕ → List ℕ → List ℕ → List ℕ → Bool
-reachFits n m from targets numbers queue parents by =
-    cellsFit n m (length targets) && (leb m 256 && (ltb from n && (leb n (length numbers) && (leb n (length queue) && (leb n (length parents) && leb n (length by))))))
+abbrev pub reachFits : ℕ → ℕ → ℕ → ℕ → ℕ → ℕ → ℕ → ℕ → Bool
+reachFits n m from t a b c d = cellsFit n m t && (leb m 256 && (ltb from n && (leb n a && (leb n b && (leb n c && leb n d)))))
 
 pub record ReachFound (n m from : ℕ) (targets numbers numbers′ queue queue′ parents parents′ by by′ : List ℕ) (r : ℕ) : Type 0 where
-  pub unfit : reachFits n m from targets numbers queue parents by ≡ false
+  pub unfit : reachFits n m from (length targets) (length numbers) (length queue) (length parents) (length by) ≡ false
       → (r ≡ 0) × (numbers′ ≡ numbers) × (queue′ ≡ queue) × (parents′ ≡ parents) × (by′ ≡ by)
-  pub found : reachFits n m from targets numbers queue parents by ≡ true → ReachSays (paritySystem n m targets) from r numbers′ queue′ parents′ by′
+  pub found : reachFits n m from (length targets) (length numbers) (length queue) (length parents) (length by) ≡ true
+      → ReachSays (paritySystem n m targets) from r numbers′ queue′ parents′ by′
   pub untouched : Untouched n r numbers numbers′ queue queue′ parents parents′ by by′
 
 pub record PathFound (place : ℕ) (parents by out out′ : List ℕ) (r : ℕ) : Type 0 where

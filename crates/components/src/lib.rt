@@ -10,7 +10,7 @@ ghost use mathlib.Core.Path.{_≡_};
 ghost use Prim.Native.Nat.{ℕ, _<_, _≤_};
 ghost use lib.ListN.{length};
 ghost use Rattle.rules.specs.Arrays.{Cleared};
-ghost use Rattle.components.specs.Calls.{cellsFit, ComponentsFound, ReachFound, PathFound};
+ghost use Rattle.components.specs.Calls.{cellsFit, reachFits, ComponentsFound, ReachFound, PathFound};
 
 // The sizes are small enough, and there is a target for each cell.
 fn cells_fit(states: usize, letters: usize, cells: usize) -> bool
@@ -20,6 +20,23 @@ fn cells_fit(states: usize, letters: usize, cells: usize) -> bool
         return false;
     }
     states * letters <= cells
+}
+
+// The same, and the letters are bytes, the search begins at a state, and four arrays have an entry for each state.
+fn reach_fits(
+    states: usize,
+    letters: usize,
+    from: usize,
+    cells: usize,
+    a: usize,
+    b: usize,
+    c: usize,
+    d: usize,
+) -> bool
+    ensures { λ r. ⌜ r ≡ reachFits states letters from cells a b c d ⌝ }
+{
+    let arrays = (states <= a) & ((states <= b) & ((states <= c) & (states <= d)));
+    cells_fit(states, letters, cells) & ((letters <= 256) & ((from < states) & arrays))
 }
 
 // Clears the first n entries.
@@ -75,10 +92,16 @@ pub fn find_reached(
 ) -> usize
     ensures { λ r. ⌜ ReachFound states letters from (now (targets .entry)) (now (numbers .entry)) (now (numbers .exit)) (now (queue .entry)) (now (queue .exit)) (now (parents .entry)) (now (parents .exit)) (now (by .entry)) (now (by .exit)) r ⌝ }
 {
-    let rooms = (states <= numbers.len())
-        & ((states <= queue.len()) & ((states <= parents.len()) & (states <= by.len())));
-    let fits = cells_fit(states, letters, targets.len())
-        & ((letters <= 256) & ((from < states) & rooms));
+    let fits = reach_fits(
+        states,
+        letters,
+        from,
+        targets.len(),
+        numbers.len(),
+        queue.len(),
+        parents.len(),
+        by.len(),
+    );
     if !fits {
         return 0;
     }

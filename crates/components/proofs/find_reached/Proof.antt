@@ -7,7 +7,7 @@ use mathlib.Core.List.{List}
 use Prim.Native.Nat.{ℕ, _-_, _<_, _≤_}
 use native.Mathlib.Nat.{le-antisymm}
 use native.Mathlib.Omega.{arith}
-use lib.ListN.{set}
+use lib.ListN.{length, set}
 use borrow.Author.Tests.{not-true, not-false}
 use Rattle.rules.specs.Judges.{paritySystem}
 use Rattle.rules.proofs.Bools.{clash}
@@ -15,26 +15,24 @@ use Rattle.components.specs.Reaches.{ReachRoom, Untouched}
 use Rattle.components.specs.Calls.{reachFits}
 use Rattle.components.proofs.Stores.{put-set}
 use Rattle.components.proofs.Reaches.{Reaching, untouched-none, untouched-then, untouched-start, reach-room-kept, reaching-none, reaching-more, reached-own, reached-start, reached-exact}
-use Rattle.components.proofs.Fits.{reach-room, reach-tested}
+use Rattle.components.proofs.Fits.{reach-room}
 use Rattle.components.proofs.find_reached.Statement.{statement}
 use Rattle.components.proofs.find_reached.Tie as tie
 
 abbrev Inv-loop : tie.InvT-loop
-Inv-loop states letters targets from numbers₀ queue₀ parents₀ by₀ rooms fits met₀ k₀ numbers queue parents by met k =
+Inv-loop states letters targets from numbers₀ queue₀ parents₀ by₀ fits met₀ k₀ numbers queue parents by met k =
     (k ≤ met) × Reaching (paritySystem states letters targets) from met k 0 targets numbers₀ numbers queue₀ queue parents₀ parents by₀ by
 
 abbrev μ-loop : tie.MeasureT-loop
-μ-loop states letters targets from numbers₀ queue₀ parents₀ by₀ rooms fits met₀ k₀ numbers queue parents by met k = states - k
+μ-loop states letters targets from numbers₀ queue₀ parents₀ by₀ fits met₀ k₀ numbers queue parents by met k = states - k
 
 -- where all fits
 module _ (c : tie.Else1 Inv-loop μ-loop) where
   abbrev start : tie.Start Inv-loop μ-loop
   start = c .before .before .before .before .before .before .before
 
-  fit : let a = start .args in reachFits (a .states) (a .letters) (a .from) (a .targets .now) (a .numbers .now) (a .queue .now) (a .parents .now) (a .by .now) ≡ true
-  fit =
-      let a = start .args in
-      sym (reach-tested (a .states) (a .letters) (a .from) (a .targets .now) (a .numbers .now) (a .queue .now) (a .parents .now) (a .by .now) _ (c .before .cells-fit .ensures)) ∙ not-false _ (c .if1 .left)
+  fit : let a = start .args in reachFits (a .states) (a .letters) (a .from) (length (a .targets .now)) (length (a .numbers .now)) (length (a .queue .now)) (length (a .parents .now)) (length (a .by .now)) ≡ true
+  fit = sym (c .before .reach-fits .ensures) ∙ not-false _ (c .if1 .left)
 
   room : let a = start .args in
       ReachRoom (paritySystem (a .states) (a .letters) (a .targets .now)) (a .targets .now) (a .numbers .now) (a .queue .now) (a .parents .now) (a .by .now) × (a .from < a .states)
@@ -54,8 +52,7 @@ module _ (c : tie.After-clear Inv-loop μ-loop) where
 
 returns : tie.Need-returns Inv-loop μ-loop
 returns c =
-    let a = c .before .before .before .before .before .before .before .args in
-    let t = sym (reach-tested (a .states) (a .letters) (a .from) (a .targets .now) (a .numbers .now) (a .queue .now) (a .parents .now) (a .by .now) _ (c .before .cells-fit .ensures)) ∙ not-true _ (c .if1 .taken) in
+    let t = sym (c .before .reach-fits .ensures) ∙ not-true _ (c .if1 .taken) in
     record { unfit = λ e. (refl, refl, refl, refl, refl); found = λ e. clash e t; untouched = untouched-none _ _ _ _ _ _ }
 
 mul-numbers : tie.Need-mul-numbers Inv-loop μ-loop
