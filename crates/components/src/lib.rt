@@ -7,7 +7,7 @@ mod paths;
 mod reach;
 
 ghost use mathlib.Core.Path.{_≡_};
-ghost use Prim.Native.Nat.{ℕ, _<_, _≤_};
+ghost use Prim.Native.Nat.{_≤_};
 ghost use lib.ListN.{length};
 ghost use Rattle.rules.specs.Arrays.{Cleared};
 ghost use Rattle.components.specs.Calls.{cellsFit, reachFits, ComponentsFound, ReachFound, PathFound};
@@ -53,7 +53,7 @@ fn clear(n: usize, array: &mut [u16])
 }
 
 // The smallest state of each state's component, in the first entries of `out`; false where the sizes or an array do not fit. In `work`
-// the search needs five entries for each state: what they hold afterwards is not said.
+// the search needs five entries for each state, which is tested by a quotient since a product could wrap: what they hold afterwards is not said.
 pub fn find_components(
     states: usize,
     letters: usize,

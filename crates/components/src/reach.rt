@@ -1,7 +1,7 @@
 // A search from one state on: states stand in a queue as they are met, each with the place of the state that led there and the letter.
 use crate::cells::target_at;
 ghost use mathlib.Core.Path.{_≡_};
-ghost use Prim.Native.Nat.{ℕ, _+_, _<_};
+ghost use Prim.Native.Nat.{_+_, _<_};
 ghost use Rattle.rules.specs.Judges.{paritySystem};
 ghost use Rattle.components.specs.Places.{at};
 ghost use Rattle.components.specs.Reaches.{Reached, ReachRoom, ReadSays};

@@ -1,5 +1,4 @@
 -- `components::clear` meets its contract. The invariant: the entries below q are cleared.
-use borrow.Author.Needs.{needs}
 use Prim.Native.Nat.{_-_, _≤_}
 use native.Mathlib.Nat.{le-antisymm}
 use native.Mathlib.Omega.{arith}
@@ -25,5 +24,5 @@ returns c = rw (le-antisymm (c .before .loop .inv .0) (c .loop-test .left)) at (
 pub clear-spec : {M : Type 1} → statement M
 clear-spec =
     tie.close
-    (tie.spec Inv-loop μ-loop (λ c. (omega arith, cleared-none 0 _)) (λ c. search needs) (λ c. omega (arith, c .before .loop .inv .1 .size))
-    (λ c. search needs) (λ c. search needs) loop-again (λ c. c .before .loop .inv .1 .size) returns)
+    (tie.spec Inv-loop μ-loop (λ c. (omega arith, cleared-none 0 _)) (λ c. omega arith) (λ c. omega (arith, c .before .loop .inv .1 .size))
+    (λ c. omega arith) (λ c. omega arith) loop-again (λ c. c .before .loop .inv .1 .size) returns)

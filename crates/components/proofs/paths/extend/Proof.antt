@@ -78,12 +78,12 @@ returns-2 c =
 pub extend-spec : {M : Type 1} → statement M
 extend-spec =
     tie.close
-    (tie.spec (λ c. search needs) (λ c. omega (arith, entry (c .before .before))) (λ c. omega (arith, entry (c .before .before)))
+    (tie.spec (λ c. omega arith) (λ c. omega (arith, entry (c .before .before))) (λ c. omega (arith, entry (c .before .before)))
     (λ c. entry (c .before .before .before) .0)
     (λ c. let a = c .before .before .before .args in omega (arith, c .slice-known2 .given (4 * a .n + a .q))) scan-requires
     (λ c. omega (arith, c .before .before .before .before .before .before .pre .0 .letters-small))
     (λ c. omega (arith, entry (c .before .before .before .before .before .before)))
-    (λ c. entry (c .before .before .before .before .before .before) .0) (λ c. search needs) (λ c. search needs) returns
+    (λ c. entry (c .before .before .before .before .before .before) .0) (λ c. omega arith) (λ c. search needs) returns
     (λ c. omega (arith, cells (s c))) (λ c. omega (arith, here c)) (λ c κs. here c) enter-requires (λ c. omega (arith, open-room (opened c)))
     (λ c. omega (arith, open-room (opened c))) (λ c. omega (arith, entry (s (opened c)))) slice-write-work-2
     (λ c. omega (arith, open-room (opened c), few (s (opened c)), entry (s (opened c))))

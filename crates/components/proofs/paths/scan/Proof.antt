@@ -1,10 +1,9 @@
 -- `components::paths::scan` meets its contract. The invariant: the letters from `from` up to a are read, and the parts joined.
-use mathlib.Core.Path.{_≡_, sym}
+use mathlib.Core.Path.{_≡_}
 use mathlib.Core.Logic.{⊎-elim}
 use Prim.Native.Nat.{ℕ, _+_, _*_, _-_, _<_, _≤_}
-use borrow.Author.Needs.{needs}
 use native.Mathlib.Omega.{arith}
-use lib.ListN.{length, take, drop}
+use lib.ListN.{length}
 use lib.Seq.{getD-take}
 use Rattle.rules.specs.Judges.{paritySystem}
 use Rattle.rules.proofs.Arrays.{row-ends}
@@ -76,7 +75,7 @@ returns-2 c = record { read = c .before .loop .inv; fresh = λ l. absurd (omega 
 pub scan-spec : {M : Type 1} → statement M
 scan-spec =
     tie.close
-    (tie.spec Inv-loop μ-loop (λ c. search needs) (λ c. search needs) (λ c. search needs) (λ c. omega arith) (λ c. omega arith) (λ c. search needs)
+    (tie.spec Inv-loop μ-loop (λ c. omega arith) (λ c. omega arith) (λ c. omega arith) (λ c. omega arith) (λ c. omega arith) (λ c. omega arith)
     mul-first (λ c. read-none _ _ _ _ _ _ (c .before .before .before .pre .3)) (λ c. omega (arith, here c)) (λ c κs. here c)
-    (λ c. search needs) (λ c. search needs) returns joined-requires (λ c. omega (arith, c .before .before .loop-test .taken))
+    (λ c. omega arith) (λ c. omega arith) returns joined-requires (λ c. omega (arith, c .before .before .loop-test .taken))
     (λ c. omega (arith, c .before .before .loop-test .taken)) loop-again returns-2)

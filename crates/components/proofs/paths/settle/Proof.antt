@@ -5,7 +5,6 @@ use native.Mathlib.Omega.{arith}
 use native.Mathlib.Nat.{le-antisymm}
 use mathlib.Core.List.{List}
 use lib.ListN.{length, length-set}
-use borrow.Author.Needs.{needs}
 use Rattle.components.specs.Places.{at}
 use Rattle.components.specs.Searching.{stackIn, Settled}
 use Rattle.components.proofs.Stores.{part-at, part-length, part-behind}
@@ -63,8 +62,8 @@ returns c =
 pub settle-spec : {M : Type 1} → statement M
 settle-spec =
     tie.close
-    (tie.spec Inv-loop μ-loop (λ c. search needs) (λ c. search needs) (λ c. omega arith) (λ c. omega arith) (λ c. search needs) smallest-requires loop-holds
-    (λ c. search needs) (λ c. search needs) (λ c. search needs) (λ c. omega (arith, state (c .before)))
+    (tie.spec Inv-loop μ-loop (λ c. omega arith) (λ c. omega arith) (λ c. omega arith) (λ c. omega arith) (λ c. omega arith) smallest-requires loop-holds
+    (λ c. omega arith) (λ c. omega arith) (λ c. omega arith) (λ c. omega (arith, state (c .before)))
     (λ c. omega (arith, state (c .before))) (λ c. omega (arith, state (c .before), c .before .before .loop .inv .2))
-    (λ c. omega (arith, state (c .before))) (λ c. omega (arith, state (c .before), c .before .before .loop .inv .3)) (λ c. search needs)
-    (λ c. search needs) loop-again (λ c. c .before .loop .inv .2) (λ c. c .before .loop .inv .3) returns)
+    (λ c. omega (arith, state (c .before))) (λ c. omega (arith, state (c .before), c .before .before .loop .inv .3)) (λ c. omega arith)
+    (λ c. omega arith) loop-again (λ c. c .before .loop .inv .2) (λ c. c .before .loop .inv .3) returns)

@@ -1,7 +1,6 @@
 -- `components::paths::smallest` meets its contract.
 use Prim.Native.Nat.{_-_, _<_, _≤_}
 use native.Mathlib.Omega.{arith}
-use borrow.Author.Needs.{needs}
 use Rattle.components.specs.Places.{at}
 use Rattle.components.specs.Searching.{Smallest}
 use Rattle.components.proofs.Loops.{smallest-one, smallest-kept, smallest-better}
@@ -29,5 +28,5 @@ returns c = rw (le-antisymm (c .before .loop .inv .1) (c .loop-test .left)) at (
 pub smallest-spec : {M : Type 1} → statement M
 smallest-spec =
     tie.close
-    (tie.spec Inv-loop μ-loop (λ c. search needs) (λ c. search needs) (λ c. search needs) loop-holds (λ c. search needs) (λ c. search needs)
-    (λ c. search needs) (λ c. search needs) loop-again returns)
+    (tie.spec Inv-loop μ-loop (λ c. omega arith) (λ c. omega arith) (λ c. omega arith) loop-holds (λ c. omega arith) (λ c. omega arith)
+    (λ c. omega arith) (λ c. omega arith) loop-again returns)

@@ -1,10 +1,9 @@
 -- `components::paths::turn` meets its contract.
-use mathlib.Core.Path.{_≡_, refl, sym}
+use mathlib.Core.Path.{_≡_, sym}
 use mathlib.Core.List.{List}
 use mathlib.Core.Logic.{⊎-elim}
 use Prim.Native.Nat.{ℕ, _+_, _*_, _-_, _<_, _≤_}
 use native.Mathlib.Omega.{arith}
-use borrow.Author.Needs.{needs}
 use lib.ListN.{length}
 use lib.Seq.{getD-take}
 use Rattle.components.specs.Places.{at}
@@ -87,13 +86,13 @@ returns-2 c =
 pub turn-spec : {M : Type 1} → statement M
 turn-spec =
     tie.close
-    (tie.spec (λ c. search needs) (λ c. few (c .before .before .before) .0) (λ c. omega (arith, few (c .before .before .before)))
-    (λ c. omega (arith, few (c .before .before .before))) (λ c. omega (arith, few (c .before .before .before .before))) (λ c. search needs)
-    (λ c. search needs) (λ c. omega (arith, few (c .before .before .before .before .before)))
+    (tie.spec (λ c. omega arith) (λ c. few (c .before .before .before) .0) (λ c. omega (arith, few (c .before .before .before)))
+    (λ c. omega (arith, few (c .before .before .before))) (λ c. omega (arith, few (c .before .before .before .before))) (λ c. omega arith)
+    (λ c. omega arith) (λ c. omega (arith, few (c .before .before .before .before .before)))
     (λ c. omega (arith, few (c .before .before .before .before .before)))
     (λ c. omega (arith, few (c .before .before .before .before .before .before)))
     (λ c. let s = c .before .before .before .before .before .before in omega (arith, waits-state s (c .before .if1 .taken), few s))
     (λ c. let s = c .before .before .before .before .before .before in omega (arith, waits-state s (c .before .if1 .taken), few s))
     (λ c. let s = c .before .before .before .before .before .before .before in omega (arith, waits-state s (c .before .before .if1 .taken), few s))
-    extend-requires (λ c. search needs) returns (λ c. omega (arith, last-below (s c), few (s c))) settle-requires sub-t12 (λ c. search needs)
-    (λ c. search needs) returns-2)
+    extend-requires (λ c. omega arith) returns (λ c. omega (arith, last-below (s c), few (s c))) settle-requires sub-t12 (λ c. omega arith)
+    (λ c. omega arith) returns-2)

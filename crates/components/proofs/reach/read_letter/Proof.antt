@@ -83,6 +83,6 @@ returns-3 c = let a = s c .args in
 pub read-letter-spec : {M : Type 1} → statement M
 read-letter-spec =
     tie.close
-    (tie.spec returns (λ c. search needs) (λ c. search needs) returns-2 (λ c. search needs) (λ c. search needs) (λ c. search needs)
-    (λ c. search needs) (λ c. search needs) (λ c. search needs) slice-write-queue (λ c. search needs) (λ c. search needs) slice-write-parents
-    (λ c. search needs) slice-write-by (λ c. search needs) (λ c. search needs) (λ c. search needs) (λ c. search needs) (λ c. search needs) returns-3)
+    (tie.spec returns (λ c. omega arith) (λ c. omega arith) returns-2 (λ c. omega arith) (λ c. omega arith) (λ c. omega arith)
+    (λ c. omega arith) (λ c. omega arith) (λ c. omega arith) slice-write-queue (λ c. omega arith) (λ c. omega arith) slice-write-parents
+    (λ c. omega arith) slice-write-by (λ c. omega arith) (λ c. search needs) (λ c. search needs) (λ c. search needs) (λ c. search needs) returns-3)
