@@ -2,10 +2,11 @@
 --     kept-few, kept-sources   no more rows are kept than there is room for, and their source states are bytes
 --     translate-refused        the table's own refusal
 --     translate-short          the capacity or an array out of range
+--     translate-nothing        either of the two
 --     translate-explored       the rows were looked for, and the arrays cleared behind those that are kept
 --     promised                 both promises, from the first
 use mathlib.Core.Path.{_≡_, refl, sym, ap, _∙_}
-use mathlib.Core.Bool.{true, false}
+use mathlib.Core.Bool.{Bool, true, false}
 use mathlib.Core.List.{List, [], append-nil, map}
 use Prim.Native.Nat.{ℕ, zero, suc, _*_, _<_, _≤_}
 use native.Mathlib.Nat.{zero-mul, mul-le-mul-right}
@@ -13,7 +14,7 @@ use native.Mathlib.Omega.{arith}
 use lib.Dec.{eqb·suc-zero}
 use lib.ListN.{length, getD, length-map}
 use borrow.Author.Tests.{ne-eqb, ltb-false}
-use Rattle.rules.specs.Basics.{pick}
+use Rattle.rules.specs.Basics.{pick, firstOf, when}
 use Rattle.rules.specs.Arrays.{Beyond, Cleared}
 use Rattle.rules.specs.Codings.{Codes}
 use Rattle.rules.specs.Limits.{noRow}
@@ -57,6 +58,27 @@ translate-refused bs c ts ps ss es (suc r) f g =
     kept : (k : ℕ) (xs o : List ℕ) → o ≡ afterwards (suc r) k xs o
     kept k xs o = rw (eqb·suc-zero r, ne-eqb (suc r) Refusal.full (λ z. omega (arith, fault-below bs)))
 
+pub translate-short : (bs : List ℕ) (c : ℕ) (ts ps ss es : List ℕ) → Taken bs → areShort c (tableOf bs .letters) (length ts) (length ps) (length ss) (length es) ≡ true
+    → TranslateSays bs c ts ts ps ps ss ss es es Refusal.arrays 0
+unfolding translateFault
+translate-short bs c ts ps ss es taken s =
+    record { refusal = rw (taken, s); count = refl; target-array = refl; priority-array = refl; state-array = refl; record-array = refl }
+
+-- the table's refusal or 7, before anything is written
+pub translate-nothing : (bs : List ℕ) (c letters : ℕ) (ts ps ss es : List ℕ) (short : Bool) (r : ℕ) → letters ≡ tableOf bs .letters
+    → short ≡ areShort c letters (length ts) (length ps) (length ss) (length es) → r ≡ firstOf (tableFault bs) (when short Refusal.arrays) → (r ≡ 0 → ⊥)
+    → TranslateSays bs c ts ts ps ps ss ss es es r 0
+translate-nothing bs c letters ts ps ss es short r m s f g =
+    by-fault (tableFault bs) refl
+  where
+    by-fault : (x : ℕ) → tableFault bs ≡ x → TranslateSays bs c ts ts ps ps ss ss es es r 0
+    by-fault (suc x) e = translate-refused bs c ts ps ss es r (f ∙ rw e) g
+    by-fault zero e =
+        by
+        short
+        (λ h. let z : r ≡ Refusal.arrays = f ∙ rw (e, h) in rw z (translate-short bs c ts ps ss es e (rw m at (sym s ∙ h))))
+        (λ h. absurd (g (f ∙ rw (e, h))))
+
 -- a table that is taken, and the test of the arrays by its letters
 module _ (bs : List ℕ) (letters c : ℕ) (ts ps ss es : List ℕ) (taken : Taken bs) (same-letters : letters ≡ tableOf bs .letters) where
   abbrev t : Table
@@ -70,11 +92,6 @@ module _ (bs : List ℕ) (letters c : ℕ) (ts ps ss es : List ℕ) (taken : Tak
 
   abbrev rows : List (Row (List ℕ))
   rows = rowsOf g c
-
-  pub translate-short : areShort c letters (length ts) (length ps) (length ss) (length es) ≡ true → TranslateSays bs c ts ts ps ps ss ss es es Refusal.arrays 0
-  unfolding translateFault
-  translate-short s =
-      record { refusal = rw (taken, rw same-letters at s); count = refl; target-array = refl; priority-array = refl; state-array = refl; record-array = refl }
 
   -- there is room, and the rows have been looked for
   module _ (enough : TakenArrays c letters (length ts) (length ps) (length ss) (length es)) {cells : List ℕ} {start : ℕ} (same-start : start ≡ entryKey t (t .start)) (codes : TableCodes t cells) {es₁ ts₁ ps₁ : List ℕ} {x : Explored} (explored : ExploreSays (record { rule = Pairs; letters = letters; start = start }) cells c es es₁ ts ts₁ ps ps₁ x) where

@@ -11,7 +11,8 @@
 --     Written n m f cells  the cells hold what f says of their state and letter
 --     TableCodes t cells   the codes of all cells, and nothing behind them
 --     HasCells bs k        an array of k entries has room for the cells of the table that the bytes say, if it is taken
---     EncodeSays bs cells number letters used start     encoding: the table's refusal; else its letters, its codes in the first cells, and the
+--     fewCells             the cells for which small arrays are enough
+--     EncodeSays bs short cells number used start     encoding: the table's refusal, then 7 if `short`; else its codes in the first cells, and the
 --                          key of the first row
 use mathlib.Core.Path.{_≡_}
 use mathlib.Core.Bool.{Bool, _&&_}
@@ -20,8 +21,9 @@ use Prim.Native.Nat.{ℕ, suc, _+_, _*_, _/_, _%_, _<_, _≤_}
 use lib.Bits.{bitAnd}
 use lib.Dec.{eqb, leb}
 use lib.ListN.{length, getD, take}
-use Rattle.rules.specs.Basics.{pick, keep, tabulate, asBits}
+use Rattle.rules.specs.Basics.{pick, firstOf, when, keep, tabulate, asBits}
 use Rattle.rules.specs.Limits.{maxStates, maxLetters}
+use Rattle.rules.specs.Refusals as Refusal
 use Rattle.rules.specs.Systems.{isInside, cell}
 use Rattle.rules.specs.Rows.{row}
 use Rattle.rules.specs.Tables.{Table, tableOf, tableFault, systemOf, targetOf, prohibits, requires, counts, rising}
@@ -77,7 +79,10 @@ pub record TableCodes (t : Table) (cells : List ℕ) : Type 0 where
 abbrev pub HasCells : List ℕ → ℕ → Type 0
 HasCells bs k = Taken bs → tableOf bs .states * tableOf bs .letters ≤ k
 
-pub record EncodeSays (bs cells : List ℕ) (number letters used start : ℕ) : Type 0 where
-  pub refusal : number ≡ tableFault bs
-  pub task : Taken bs
-      → (letters ≡ tableOf bs .letters) × (start ≡ entryKey (tableOf bs) (tableOf bs .start)) × (used ≤ length cells) × TableCodes (tableOf bs) (take used cells)
+abbrev pub fewCells : ℕ
+fewCells = 64
+
+pub record EncodeSays (bs : List ℕ) (short : Bool) (cells : List ℕ) (number used start : ℕ) : Type 0 where
+  pub refusal : number ≡ firstOf (tableFault bs) (when short Refusal.arrays)
+  pub task : number ≡ 0
+      → (start ≡ entryKey (tableOf bs) (tableOf bs .start)) × (used ≤ length cells) × TableCodes (tableOf bs) (take used cells)

@@ -3,10 +3,13 @@ use crate::cells::write_codes;
 use rules::limit::HEADER_SIZE;
 use rules::limit::MAX_LETTERS;
 use rules::limit::MAX_STATES;
+use rules::refusal;
 use tables::lay_table;
 use tables::survey_cells;
+ghost use mathlib.Core.Path.{_≡_};
+ghost use mathlib.Core.Bool.{true};
 ghost use lib.ListN.{length};
-ghost use Rattle.translate.specs.Cells.{HasCells, EncodeSays};
+ghost use Rattle.translate.specs.Cells.{fewCells, HasCells, EncodeSays};
 
 // The cells for which small arrays are enough, and the bytes of a table with so many.
 pub(crate) const FEW_CELLS: usize = 64;
@@ -16,33 +19,42 @@ pub(crate) const FEW_BYTES: usize = HEADER_SIZE + 3 * FEW_CELLS;
 // The cells that a table can have.
 pub(crate) const MAX_CELLS: usize = MAX_STATES as usize * MAX_LETTERS as usize;
 
-// The refusal or 0; of a table that is taken its letters, the number of its cells and the key of the first row.
+// The refusal or 0; where there is none, the number of the table's cells and the key of the first row.
 pub(crate) struct Encoded {
     pub number: u8,
-    pub letters: u8,
     pub used: usize,
     pub start: u32,
 }
 
-// Writes the codes of a table's cells, with lent arrays for their targets and their marks.
+// Nothing is encoded, for the refusal with that number.
+fn refused_with(number: u8) -> Encoded
+    ensures { λ r. ⌜ r .number ≡ number ⌝ }
+{
+    Encoded {
+        number,
+        used: 0,
+        start: 0,
+    }
+}
+
+// Writes the codes of a table's cells, with lent arrays for their targets and their marks. `short` says that the translation will be refused
+// in any case: that is found before the components are.
 fn encode_in(
     table: &[u8],
+    short: bool,
     cell_targets: &mut [u16],
     cell_marks: &mut [u16],
     cells: &mut [u32],
 ) -> Encoded
     requires { ⌜ HasCells (now table) (length (now «cell_targets»)) × HasCells (now table) (length (now «cell_marks»)) × HasCells (now table) (length (now cells)) ⌝ }
-    ensures { λ r. ⌜ EncodeSays (now (table .entry)) (now (cells .exit)) (r .number) (r .letters) (r .used) (r .start) ⌝ }
+    ensures { λ r. ⌜ EncodeSays (now (table .entry)) short (now (cells .exit)) (r .number) (r .used) (r .start) ⌝ }
 {
     let laid = lay_table(table, cell_targets, cell_marks);
-    let number = laid.number;
-    if number != 0 {
-        return Encoded {
-            number,
-            letters: 0,
-            used: 0,
-            start: 0,
-        };
+    if laid.number != 0 {
+        return refused_with(laid.number);
+    }
+    if short {
+        return refused_with(refusal::ARRAYS);
     }
     let n = laid.states;
     let m = laid.letters as usize;
@@ -61,23 +73,22 @@ fn encode_in(
     );
     Encoded {
         number: 0,
-        letters: laid.letters,
         used: n * m,
         start,
     }
 }
 
-// Writes the codes of a table's cells. For few cells clearing the arrays of all that a table can have would take longer than the rest.
-pub(crate) fn encode_table(table: &[u8], cells: &mut [u32]) -> Encoded
-    requires { ⌜ HasCells (now table) (length (now cells)) ⌝ }
-    ensures { λ r. ⌜ EncodeSays (now (table .entry)) (now (cells .exit)) (r .number) (r .letters) (r .used) (r .start) ⌝ }
+// Writes the codes of a table's cells, with local arrays for few cells or for all that a table can have.
+pub(crate) fn encode_table(table: &[u8], short: bool, few: bool, cells: &mut [u32]) -> Encoded
+    requires { ⌜ (few ≡ true → HasCells (now table) fewCells) × HasCells (now table) (length (now cells)) ⌝ }
+    ensures { λ r. ⌜ EncodeSays (now (table .entry)) short (now (cells .exit)) (r .number) (r .used) (r .start) ⌝ }
 {
-    if table.len() <= FEW_BYTES {
+    if few {
         let mut cell_targets = [0; FEW_CELLS];
         let mut cell_marks = [0; FEW_CELLS];
-        return encode_in(table, &mut cell_targets, &mut cell_marks, cells);
+        return encode_in(table, short, &mut cell_targets, &mut cell_marks, cells);
     }
     let mut cell_targets = [0; MAX_CELLS];
     let mut cell_marks = [0; MAX_CELLS];
-    encode_in(table, &mut cell_targets, &mut cell_marks, cells)
+    encode_in(table, short, &mut cell_targets, &mut cell_marks, cells)
 }

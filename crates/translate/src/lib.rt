@@ -10,15 +10,17 @@ use explore::Task;
 use explore::are_short;
 use explore::find_rows;
 use rules::refusal;
+use tables::letters_of;
 
 mod cells;
 mod encode;
 mod rows;
 
 ghost use mathlib.Core.Path.{_≡_};
+ghost use mathlib.Core.Bool.{true};
 ghost use Rattle.rules.specs.Says.{TranslateSays, TranslationAgrees};
 ghost use lib.ListN.{length};
-ghost use Rattle.translate.specs.Cells.{HasCells};
+ghost use Rattle.translate.specs.Cells.{fewCells, HasCells};
 ghost use Rattle.translate.specs.Rows.{refusalOf, rowsKept};
 
 // The refusal or 0, and the number of rows, 0 on a refusal.
@@ -45,8 +47,9 @@ fn told(explored: Explored) -> Translation
     }
 }
 
-// Translates with a lent array for the codes of the table's cells.
+// Translates with a lent array for the codes of the table's cells, which may be few.
 fn translate_in(
+    few: bool,
     cells: &mut [u32],
     table: &[u8],
     capacity: usize,
@@ -55,16 +58,11 @@ fn translate_in(
     sources: &mut [u8],
     records: &mut [u32],
 ) -> Translation
-    requires { ⌜ HasCells (now table) (length (now cells)) ⌝ }
+    requires { ⌜ (few ≡ true → HasCells (now table) fewCells) × HasCells (now table) (length (now cells)) ⌝ }
     ensures says { λ r. ⌜ TranslateSays (now (table .entry)) capacity (now (targets .entry)) (now (targets .exit)) (now (priorities .entry)) (now (priorities .exit)) (now (sources .entry)) (now (sources .exit)) (now (records .entry)) (now (records .exit)) (r .number) (r .rows) ⌝ }
     ensures agrees { λ r. ⌜ TranslationAgrees (now (table .entry)) (now (targets .exit)) (now (priorities .exit)) (now (sources .exit)) (r .number) (r .rows) ⌝ }
 {
-    let encoded = encode::encode_table(table, cells);
-    let number = encoded.number;
-    if number != 0 {
-        return Translation { number, rows: 0 };
-    }
-    let m = encoded.letters;
+    let m = letters_of(table);
     let short = are_short(
         capacity,
         m,
@@ -73,8 +71,9 @@ fn translate_in(
         sources.len(),
         records.len(),
     );
-    if short {
-        let number = refusal::ARRAYS;
+    let encoded = encode::encode_table(table, short, few, cells);
+    let number = encoded.number;
+    if number != 0 {
         return Translation { number, rows: 0 };
     }
     let rule = Rule::Pairs;
@@ -103,7 +102,8 @@ fn translate_in(
     Translation { number, rows }
 }
 
-// The parity table of a Rabin table, in the lent arrays. A table of few bytes has few cells.
+// The parity table of a Rabin table, in the lent arrays. A table of few bytes has few cells, and clearing arrays for all that a table can have
+// would take longer than the rest.
 pub fn translate_table(
     table: &[u8],
     capacity: usize,
@@ -118,6 +118,7 @@ pub fn translate_table(
     if table.len() <= FEW_BYTES {
         let mut cells = [0; FEW_CELLS];
         return translate_in(
+            true,
             &mut cells,
             table,
             capacity,
@@ -129,6 +130,7 @@ pub fn translate_table(
     }
     let mut cells = [0; MAX_CELLS];
     translate_in(
+        false,
         &mut cells,
         table,
         capacity,

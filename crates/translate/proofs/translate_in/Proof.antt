@@ -5,58 +5,54 @@ use Prim.Native.Nat.{_≤_}
 use native.Mathlib.Omega.{arith}
 use lib.ListN.{length, take}
 use lib.Seq.{length-take-le}
-use Rattle.rules.specs.Tables.{tableOf}
-use Rattle.rules.proofs.Refusals.{TakenArrays, taken-arrays, taken-table}
-use Rattle.tables.specs.Parts.{Taken}
+use Rattle.rules.specs.Basics.{when}
+use Rattle.rules.specs.Tables.{tableOf, tableFault}
+use Rattle.rules.proofs.Refusals.{TakenArrays, taken-arrays, taken-table, first-zero, when-none}
 use Rattle.translate.specs.Cells.{entryKey, TableCodes}
-use Rattle.translate.proofs.Promises.{kept-few, kept-sources, translate-refused, translate-short, translate-explored, promised}
+use Rattle.translate.proofs.Promises.{kept-few, kept-sources, translate-nothing, translate-explored, promised}
 use Rattle.translate.proofs.translate_in.Statement.{statement}
 use Rattle.translate.proofs.translate_in.Tie as tie
 
 returns : tie.Need-returns
-returns c = promised (translate-refused _ _ _ _ _ _ _ (c .before .before .before .encode-table .ensures .refusal) (c .if1 .taken))
+returns c =
+    promised (translate-nothing _ _ _ _ _ _ _ _ _ (c .before .before .before .before .before .before .letters-of .ensures) (c .before .before .before .before .before .are-short .ensures) (c .before .before .before .encode-table .ensures .refusal) (c .if1 .taken))
 
--- the table is taken and encoded
+-- the table is taken and encoded, and the arrays are long enough
 module _ (c : tie.Else1) where
   abbrev lent : tie.Start
-  lent = c .before .before .before .before .before .before .before .before .before .before .before
+  lent = c .before .before .before .before .before .before .before .before .before .before .before .before .before
 
-  is-taken : Taken (lent .args .table .now)
-  is-taken = sym (c .before .before .before .encode-table .ensures .refusal) ∙ c .if1 .left
+  none : (tableFault (lent .args .table .now) ≡ 0) × (when (c .before .before .before .before .before .are-short .result) 7 ≡ 0)
+  none = first-zero _ _ (sym (c .before .before .before .encode-table .ensures .refusal) ∙ c .if1 .left)
 
   task : let t = tableOf (lent .args .table .now) in let x = c .before .before .before .encode-table in
-      (x .result .letters ≡ t .letters) × (x .result .start ≡ entryKey t (t .start)) × (x .result .used ≤ length (x .last .1 .0)) × TableCodes t (take (x .result .used) (x .last .1 .0))
-  task = c .before .before .before .encode-table .ensures .task is-taken
+      (x .result .start ≡ entryKey t (t .start)) × (x .result .used ≤ length (x .last .1 .1 .1 .0)) × TableCodes t (take (x .result .used) (x .last .1 .1 .1 .0))
+  task = c .before .before .before .encode-table .ensures .task (c .if1 .left)
 
-returns-2 : tie.Need-returns-2
-returns-2 c = let e = c .before .before in promised (translate-short _ _ _ _ _ _ _ (is-taken e) (task e .0) (sym (c .before .are-short .ensures) ∙ c .if2 .taken))
+  same : c .before .before .before .before .before .before .letters-of .result ≡ tableOf (lent .args .table .now) .letters
+  same = c .before .before .before .before .before .before .letters-of .ensures
 
-slice-aggregate-find-rows : tie.Need-slice-aggregate-find-rows
-slice-aggregate-find-rows c = sym (length-take-le _ _ (task (c .before .before .before) .2))
-
--- the arrays are long enough
-enough : (c : tie.Else2) → let a = c .before .before .before .before .before .before .before .before .before .before .before .before .before .args in
-    TakenArrays (a .capacity) (c .before .before .before .before .before .encode-table .result .letters) (length (a .targets .now)) (length (a .priorities .now)) (length (a .sources .now)) (length (a .records .now))
-enough c = taken-arrays _ _ _ _ _ _ (sym (c .before .are-short .ensures) ∙ c .if2 .left)
+  enough : let a = lent .args in
+      TakenArrays (a .capacity) (c .before .before .before .before .before .before .letters-of .result) (length (a .targets .now)) (length (a .priorities .now)) (length (a .sources .now)) (length (a .records .now))
+  enough = taken-arrays _ _ _ _ _ _ (sym (c .before .before .before .before .before .are-short .ensures) ∙ when-none _ _ (none .1))
 
 leave-rows-requires : tie.Need-leave-rows-requires
 leave-rows-requires c κs =
-    let e = c .before .before .before .before .before .before .before .before .before .before .before .before .before .before .before .before .before .before in
+    let e = c .before .before .before .before .before .before .before .before .before .before .before .before .before .before .before .before in
     let x = c .before .before .before .before .before .before .before .before .before .before .before .find-rows in
     let n = c .before .before .before .before .told .ensures .1 in
-    let room = enough (c .before .before .before .before .before .before .before .before .before .before .before .before .before .before .before .before) in
-    let few = kept-few _ _ _ _ _ (lent e .args .sources .now) _ (is-taken e) (task e .0) room (task e .1) (task e .3) (x .ensures) n in
-    (omega (arith, room, few, task e .0, taken-table _ (is-taken e), x .kept), kept-sources _ _ _ _ _ (lent e .args .sources .now) _ (is-taken e) (task e .0) room (task e .1) (task e .3) (x .ensures) n)
+    let few = kept-few _ _ _ _ _ (lent e .args .sources .now) _ (none e .0) (same e) (enough e) (task e .0) (task e .2) (x .ensures) n in
+    (omega (arith, enough e, few, same e, taken-table _ (none e .0), x .kept), kept-sources _ _ _ _ _ (lent e .args .sources .now) _ (none e .0) (same e) (enough e) (task e .0) (task e .2) (x .ensures) n)
 
-returns-3 : tie.Need-returns-3
-returns-3 c =
-    let e = c .before .before .before .before .before .before .before .before .before .before .before .before .before .before .before .before .before .before .before .before .before .before .before .before .before .before .before in
+returns-2 : tie.Need-returns-2
+returns-2 c =
+    let e = c .before .before .before .before .before .before .before .before .before .before .before .before .before .before .before .before .before .before .before .before .before .before .before .before .before in
     let told = c .before .before .before .before .before .before .before .before .before .before .before .before .before .told .ensures in
-    promised (translate-explored _ _ _ _ _ _ _ (is-taken e) (task e .0) (enough (c .before .before .before .before .before .before .before .before .before .before .before .before .before .before .before .before .before .before .before .before .before .before .before .before .before)) (task e .1) (task e .3) (c .before .before .before .before .before .before .before .before .before .before .before .before .before .before .before .before .before .before .before .before .find-rows .ensures) (told .0) (told .1) (c .before .before .before .before .before .before .before .before .leave-rows .ensures))
+    promised (translate-explored _ _ _ _ _ _ _ (none e .0) (same e) (enough e) (task e .0) (task e .2) (c .before .before .before .before .before .before .before .before .before .before .before .before .before .before .before .before .before .before .before .before .find-rows .ensures) (told .0) (told .1) (c .before .before .before .before .before .before .before .before .leave-rows .ensures))
 
 pub translate-in-spec : {M : Type 1} → statement M
 translate-in-spec =
     tie.close
-    (tie.spec (λ c κs. search needs) (λ c. search needs) returns (λ c κs. search needs) (λ c. search needs) returns-2 (λ c. search needs)
-    (λ c. task (c .before .before) .2) slice-aggregate-find-rows (λ c κs. search needs) (λ c κs. search needs) leave-rows-requires (λ c. search needs)
-    (λ c. search needs) (λ c. search needs) (λ c. search needs) (λ c. search needs) returns-3)
+    (tie.spec (λ c κs. search needs) (λ c κs. search needs) (λ c κs. search needs) (λ c. search needs) returns (λ c. search needs)
+    (λ c. task c .1) (λ c. sym (length-take-le _ _ (task (c .before) .1))) (λ c κs. search needs) (λ c κs. search needs) leave-rows-requires (λ c. search needs)
+    (λ c. search needs) (λ c. search needs) (λ c. search needs) (λ c. search needs) returns-2)
