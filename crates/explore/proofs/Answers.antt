@@ -5,7 +5,7 @@
 --     many-after           rows read with a large index behind those read with a small one
 --     answer-unfit, answer-full, answer-rows     the three answers
 use mathlib.Core.Path.{_≡_, refl, sym, ap, _∙_}
-use mathlib.Core.Bool.{true, false, _&&_, _||_}
+use mathlib.Core.Bool.{true, false, _||_}
 use mathlib.Core.List.{List}
 use Prim.Native.Nat.{ℕ, _*_, _<_, _≤_}
 use native.Mathlib.Nat.{mul-le-mul}
@@ -14,7 +14,7 @@ use lib.Dec.{eqb, ltb, leb}
 use lib.ListN.{length}
 use lib.Seq.{length-take-le}
 use borrow.Author.Tests.{eqb-false, ltb-true, ltb-false, lt-ltb, le-ltb, leb-false}
-use Rattle.rules.specs.Basics.{pick, any}
+use Rattle.rules.specs.Basics.{any}
 use Rattle.rules.specs.Limits.{maxLetters, noRow}
 use Rattle.rules.specs.Rows.{Plan, rowsOf, targetNumber}
 use Rattle.rules.specs.Says.{areShort}
