@@ -72,10 +72,10 @@ lines-same n m ts ts′ ps ps′ ss ss′ rs rs′ ft fp fs fr =
     letters i l a h = let b : cell m i a < n * m = omega (arith, row-ends n m i l) in rw (ft (cell m i a) b, fp (cell m i a) b)
 
 -- ---- success
-pub success : {bs : List ℕ} {c : ℕ} {a a′ b b′ d d′ e e′ : List ℕ} {number rows : ℕ} → number ≡ 0 → TranslateSays bs c a a′ b b′ d d′ e e′ number rows → TranslateSays bs c a a′ b b′ d d′ e e′ 0 rows
+pub success : {bs : List ℕ} {c : ℕ} {ts ts′ ps ps′ ss ss′ es es′ : List ℕ} {number rows : ℕ} → number ≡ 0 → TranslateSays bs c ts ts′ ps ps′ ss ss′ es es′ number rows → TranslateSays bs c ts ts′ ps ps′ ss ss′ es es′ 0 rows
 success z says = rw z at says
 
-module _ {bs : List ℕ} {c : ℕ} {a a′ b b′ d d′ e e′ : List ℕ} {rows : ℕ} (says : TranslateSays bs c a a′ b b′ d d′ e e′ 0 rows) where
+module _ {bs : List ℕ} {c : ℕ} {ts ts′ ps ps′ ss ss′ es es′ : List ℕ} {rows : ℕ} (says : TranslateSays bs c ts ts′ ps ps′ ss ss′ es es′ 0 rows) where
   cells : length (tableRows bs c) * tableOf bs .letters ≡ rows * tableOf bs .letters
   cells = rw (says .count)
 
@@ -92,41 +92,41 @@ module _ {bs : List ℕ} {c : ℕ} {a a′ b b′ d d′ e e′ : List ℕ} {row
   record-length = length-map (tableRows bs c) (λ r. decimal (r .memory)) ∙ sym (says .count)
 
   pub taken : TakenTable bs
-  taken = taken-translation bs c (length a) (length b) (length d) (length e) (sym (says .refusal)) .0
+  taken = taken-translation bs c (length ts) (length ps) (length ss) (length es) (sym (says .refusal)) .0
 
-  pub shown : Shown rows (tableOf bs .letters) a′ b′ d′ e′
+  pub shown : Shown rows (tableOf bs .letters) ts′ ps′ ss′ es′
   shown =
       let k = c * tableOf bs .letters in
       record {
-        most-rows = rw (says .count) (taken-translation bs c (length a) (length b) (length d) (length e) (sym (says .refusal)) .1);
+        most-rows = rw (says .count) (taken-translation bs c (length ts) (length ps) (length ss) (length es) (sym (says .refusal)) .1);
         most-letters = taken .sizes .most-letters;
-        target-cells = omega (arith, target-length, front-length k (targets bs c) a a′ (says .target-array));
-        priority-cells = omega (arith, priority-length, front-length k (priorities bs c) b b′ (says .priority-array));
-        states = omega (arith, state-length, front-length c (sourceStates bs c) d d′ (says .state-array));
-        records = omega (arith, record-length, front-length c (recordNumbers bs c) e e′ (says .record-array));
+        target-cells = omega (arith, target-length, front-length k (targets bs c) ts ts′ (says .target-array));
+        priority-cells = omega (arith, priority-length, front-length k (priorities bs c) ps ps′ (says .priority-array));
+        states = omega (arith, state-length, front-length c (sourceStates bs c) ss ss′ (says .state-array));
+        records = omega (arith, record-length, front-length c (recordNumbers bs c) es es′ (says .record-array));
       }
 
   -- the arrays as they are left give the lines of what was found
-  as-found : lines rows (tableOf bs .letters) a′ b′ d′ e′ ≡ lines rows (tableOf bs .letters) (targets bs c) (priorities bs c) (sourceStates bs c) (recordNumbers bs c)
+  as-found : lines rows (tableOf bs .letters) ts′ ps′ ss′ es′ ≡ lines rows (tableOf bs .letters) (targets bs c) (priorities bs c) (sourceStates bs c) (recordNumbers bs c)
   as-found =
       let k = c * tableOf bs .letters in
-      lines-same rows (tableOf bs .letters) a′ (targets bs c) b′ (priorities bs c) d′ (sourceStates bs c) e′ (recordNumbers bs c)
-      (λ p l. front-at k (targets bs c) a a′ (says .target-array) p (omega (arith, target-length)))
-      (λ p l. front-at k (priorities bs c) b b′ (says .priority-array) p (omega (arith, priority-length)))
-      (λ i l. front-at c (sourceStates bs c) d d′ (says .state-array) i (omega (arith, state-length)))
-      (λ i l. front-at c (recordNumbers bs c) e e′ (says .record-array) i (omega (arith, record-length)))
+      lines-same rows (tableOf bs .letters) ts′ (targets bs c) ps′ (priorities bs c) ss′ (sourceStates bs c) es′ (recordNumbers bs c)
+      (λ p l. front-at k (targets bs c) ts ts′ (says .target-array) p (omega (arith, target-length)))
+      (λ p l. front-at k (priorities bs c) ps ps′ (says .priority-array) p (omega (arith, priority-length)))
+      (λ i l. front-at c (sourceStates bs c) ss ss′ (says .state-array) i (omega (arith, state-length)))
+      (λ i l. front-at c (recordNumbers bs c) es es′ (says .record-array) i (omega (arith, record-length)))
 
-  pub listing-done : listing bs c (length a) (length b) (length d) (length e) ≡ head rows (tableOf bs .letters) (tableOf bs .pairs) ++ lines rows (tableOf bs .letters) a′ b′ d′ e′
+  pub listing-done : listing bs c (length ts) (length ps) (length ss) (length es) ≡ head rows (tableOf bs .letters) (tableOf bs .pairs) ++ lines rows (tableOf bs .letters) ts′ ps′ ss′ es′
   unfolding listing tableListing
   listing-done = rw (← says .refusal, ← says .count, as-found)
 
 -- ---- both outcomes
-module _ {bs : List ℕ} {c : ℕ} {a a′ b b′ d d′ e e′ : List ℕ} {number rows : ℕ} (says : TranslateSays bs c a a′ b b′ d d′ e e′ number rows) where
-  pub listing-refused : (number ≡ 0 → ⊥) → listing bs c (length a) (length b) (length d) (length e) ≡ refused number
+module _ {bs : List ℕ} {c : ℕ} {ts ts′ ps ps′ ss ss′ es es′ : List ℕ} {number rows : ℕ} (says : TranslateSays bs c ts ts′ ps ps′ ss ss′ es es′ number rows) where
+  pub listing-refused : (number ≡ 0 → ⊥) → listing bs c (length ts) (length ps) (length ss) (length es) ≡ refused number
   unfolding listing
   listing-refused ne = rw (← says .refusal, ne-eqb number 0 ne)
 
-  pub listing-says : {o o′ t : List ℕ} {r : ℕ} → listing bs c (length a) (length b) (length d) (length e) ≡ t → Wrote 0 t o o′ r → ListingSays bs c a a′ b b′ d d′ e e′ o o′ r
+  pub listing-says : {o o′ t : List ℕ} {r : ℕ} → listing bs c (length ts) (length ps) (length ss) (length es) ≡ t → Wrote 0 t o o′ r → ListingSays bs c ts ts′ ps ps′ ss ss′ es es′ o o′ r
   listing-says is w =
       record {
         arrays = rw (says .refusal) at (rw (says .count) at says);

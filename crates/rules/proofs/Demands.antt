@@ -20,12 +20,12 @@ use Rattle.rules.proofs.Refusals.{first-none, first-zero, when-none, ta
 use Rattle.rules.proofs.Demand3.{demand-3}
 use Rattle.rules.proofs.RabinTables.{rabin-lawful}
 
-agrees : (bs : List ℕ) (c : ℕ) → tableFault bs ≡ 0 → c ≤ maxRows → exceeds bs c ≡ false → (a b d : List ℕ)
-    → Agrees bs (length (tableRows bs c)) (targets bs c ++ a) (priorities bs c ++ b) (sourceStates bs c ++ d)
-agrees bs c fault within fits a b d =
+agrees : (bs : List ℕ) (c : ℕ) → tableFault bs ≡ 0 → c ≤ maxRows → exceeds bs c ≡ false → (ts ps ss : List ℕ)
+    → Agrees bs (length (tableRows bs c)) (targets bs c ++ ts) (priorities bs c ++ ps) (sourceStates bs c ++ ss)
+agrees bs c fault within fits ts ps ss =
     let t = tableOf bs in
     let ok = taken-table bs fault in
-    let g = demand-3 (systemOf t) (t .start) (recordKeeper t) (satisfies t) (IsOrdering t) (rabin-lawful t) (ok .start-state) c fits within a b d (ok .sizes .some-letters) (ok .sizes .most-letters) in
+    let g = demand-3 (systemOf t) (t .start) (recordKeeper t) (satisfies t) (IsOrdering t) (rabin-lawful t) (ok .start-state) c fits within ts ps ss (ok .sizes .some-letters) (ok .sizes .most-letters) in
     record {
       words = g .words;
       judges = λ lead l. g .judges lead l ∙ rw fault;
@@ -33,12 +33,12 @@ agrees bs c fault within fits a b d =
     }
 
 pub demands : Demands
-demands bs c h a b d =
+demands bs c h ts ps ss =
     let f = exceeds bs c in
     let r = and-parts (eqb (tableFault bs) 0) (leb 1 c && (leb c maxRows && not f)) h in
     let u = and-parts (leb 1 c) (leb c maxRows && not f) (r .1) in
     let v = and-parts (leb c maxRows) (not f) (u .1) in
-    agrees bs c (eqb-true (tableFault bs) 0 (r .0)) (leb-true c maxRows (v .0)) (not-true f (v .1)) a b d
+    agrees bs c (eqb-true (tableFault bs) 0 (r .0)) (leb-true c maxRows (v .0)) (not-true f (v .1)) ts ps ss
 
 -- ---- the arrays that the translator leaves
 -- what stands behind the rows in an array that holds xs after success
@@ -50,21 +50,21 @@ unfolding behind
 after-success number k xs o o′ z e =
     sym (append-assoc xs (replicate (k - length xs) 0) (drop (length (xs ++ replicate (k - length xs) 0)) o)) ∙ sym (rw z at e)
 
-pub says-agrees : (bs : List ℕ) (c : ℕ) (a a′ b b′ d d′ e e′ : List ℕ) (number count : ℕ)
-    → TranslateSays bs c a a′ b b′ d d′ e e′ number count → TranslationAgrees bs a′ b′ d′ number count
+pub says-agrees : (bs : List ℕ) (c : ℕ) (ts ts′ ps ps′ ss ss′ es es′ : List ℕ) (number count : ℕ)
+    → TranslateSays bs c ts ts′ ps ps′ ss ss′ es es′ number count → TranslationAgrees bs ts′ ps′ ss′ number count
 unfolding translateFault
-says-agrees bs c a a′ b b′ d d′ e e′ number count says z =
+says-agrees bs c ts ts′ ps ps′ ss ss′ es es′ number count says z =
     let t = tableOf bs in
     let k = c * t .letters in
     let full = exceeds bs c in
-    let bad = ltb maxRows c || (ltb (length a) k || (ltb (length b) k || (ltb (length d) c || ltb (length e) c))) in
-    let r = first-zero (tableFault bs) (firstOf (arraysFault c (t .letters) (length a) (length b) (length d) (length e)) (when full Refusal.full)) (sym (says .refusal) ∙ z) in
+    let bad = ltb maxRows c || (ltb (length ts) k || (ltb (length ps) k || (ltb (length ss) c || ltb (length es) c))) in
+    let r = first-zero (tableFault bs) (firstOf (arraysFault c (t .letters) (length ts) (length ps) (length ss) (length es)) (when full Refusal.full)) (sym (says .refusal) ∙ z) in
     let u = first-none (eqb c 0 || bad) 6 (when full Refusal.full) (r .1) in
     let v = or-none (eqb c 0) bad (u .0) in
-    let w = or-none (ltb maxRows c) (ltb (length a) k || (ltb (length b) k || (ltb (length d) c || ltb (length e) c))) (v .1) in
-    let all = agrees bs c (r .0) (ltb-false maxRows c (w .0)) (when-none full 7 (u .1)) (behind k (targets bs c) a) (behind k (priorities bs c) b) (behind c (sourceStates bs c) d) in
-    let at-a = after-success number k (targets bs c) a a′ z (says .target-array) in
-    let at-b = after-success number k (priorities bs c) b b′ z (says .priority-array) in
-    let at-d = after-success number c (sourceStates bs c) d d′ z (says .state-array) in
+    let w = or-none (ltb maxRows c) (ltb (length ts) k || (ltb (length ps) k || (ltb (length ss) c || ltb (length es) c))) (v .1) in
+    let all = agrees bs c (r .0) (ltb-false maxRows c (w .0)) (when-none full 7 (u .1)) (behind k (targets bs c) ts) (behind k (priorities bs c) ps) (behind c (sourceStates bs c) ss) in
+    let at-ts = after-success number k (targets bs c) ts ts′ z (says .target-array) in
+    let at-ps = after-success number k (priorities bs c) ps ps′ z (says .priority-array) in
+    let at-ss = after-success number c (sourceStates bs c) ss ss′ z (says .state-array) in
     let some : length (tableRows bs c) ≡ count = sym (rw z at (says .count)) in
-    rw (at-a, at-b, at-d, some) at all
+    rw (at-ts, at-ps, at-ss, some) at all

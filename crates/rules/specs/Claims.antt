@@ -52,4 +52,4 @@ pub record Agrees (bs : List ℕ) (n : ℕ) (ts ps ss : List ℕ) : Type 0 where
       → (parityGood (tableOf bs .letters) ps xs ≡ true) ↔ (satisfies (tableOf bs) (projected ss xs) ≡ true)
 
 abbrev pub Demands : Type 0
-Demands = (bs : List ℕ) (c : ℕ) → translated bs c ≡ true → (a b d : List ℕ) → Agrees bs (length (tableRows bs c)) (targets bs c ++ a) (priorities bs c ++ b) (sourceStates bs c ++ d)
+Demands = (bs : List ℕ) (c : ℕ) → translated bs c ≡ true → (ts ps ss : List ℕ) → Agrees bs (length (tableRows bs c)) (targets bs c ++ ts) (priorities bs c ++ ps) (sourceStates bs c ++ ss)

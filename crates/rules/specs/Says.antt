@@ -5,14 +5,14 @@
 --     components t                            the smallest state of each state's component
 --     componentsFault bs n                    the table's refusals, then 7 for an array of n bytes that is too short
 --     ComponentsSay bs o o′ r                 finding the components
---     areShort c m a b d e                    the capacity is out of range, or one of the four lent arrays is below its size
+--     areShort c m a b d e                    the capacity is out of range, or one of the four lent arrays, of lengths a, b, d and e, is too short
 --     arraysFault c m a b d e                 7: the capacity, or the lengths of the four lent arrays
 --     translateFault bs c a b d e             the table's refusals, then 7, then 8
 --     padded n xs o                           o with xs and zeros up to n at its front
 --     afterwards f n xs o                     what an array of n places for c rows holds after the refusal f: on success xs and zeros, on
 --                                             8 zeros, else what it held
---     TranslateSays bs c a a′ .. number rows  translating: the targets a, priorities b, source states d and record numbers e
---     TranslationAgrees bs a′ b′ d′ number rows    demand 3 of the arrays as the translator leaves them, with whatever stands behind
+--     TranslateSays bs c ts ts′ .. number rows    translating: the targets ts, priorities ps, source states ss and record numbers es
+--     TranslationAgrees bs ts′ ps′ ss′ number rows    demand 3 of the arrays as the translator leaves them, with whatever stands behind
 --     RabinSays, ParitySays                   judging a looped word
 --     RestSays lead l i part                  the rest of a piece as that very part of it
 use mathlib.Core.Path.{_≡_}
@@ -63,16 +63,16 @@ padded n xs o = over (xs ++ replicate (n - length xs) 0) o
 abbrev pub afterwards : ℕ → ℕ → List ℕ → List ℕ → List ℕ
 afterwards f n xs o = pick (eqb f 0) (padded n xs o) (pick (eqb f Refusal.full) (padded n [] o) o)
 
-pub record TranslateSays (bs : List ℕ) (c : ℕ) (a a′ b b′ d d′ e e′ : List ℕ) (number rows : ℕ) : Type 0 where
-  pub refusal : number ≡ translateFault bs c (length a) (length b) (length d) (length e)
+pub record TranslateSays (bs : List ℕ) (c : ℕ) (ts ts′ ps ps′ ss ss′ es es′ : List ℕ) (number rows : ℕ) : Type 0 where
+  pub refusal : number ≡ translateFault bs c (length ts) (length ps) (length ss) (length es)
   pub count : rows ≡ pick (eqb number 0) (length (tableRows bs c)) 0
-  pub target-array : a′ ≡ afterwards number (c * tableOf bs .letters) (targets bs c) a
-  pub priority-array : b′ ≡ afterwards number (c * tableOf bs .letters) (priorities bs c) b
-  pub state-array : d′ ≡ afterwards number c (sourceStates bs c) d
-  pub record-array : e′ ≡ afterwards number c (recordNumbers bs c) e
+  pub target-array : ts′ ≡ afterwards number (c * tableOf bs .letters) (targets bs c) ts
+  pub priority-array : ps′ ≡ afterwards number (c * tableOf bs .letters) (priorities bs c) ps
+  pub state-array : ss′ ≡ afterwards number c (sourceStates bs c) ss
+  pub record-array : es′ ≡ afterwards number c (recordNumbers bs c) es
 
 abbrev pub TranslationAgrees : List ℕ → List ℕ → List ℕ → List ℕ → ℕ → ℕ → Type 0
-TranslationAgrees bs a′ b′ d′ number rows = number ≡ 0 → Agrees bs rows a′ b′ d′
+TranslationAgrees bs ts′ ps′ ss′ number rows = number ≡ 0 → Agrees bs rows ts′ ps′ ss′
 
 -- judging
 abbrev pub RabinSays : List ℕ → List ℕ → List ℕ → Answer → Type 0
