@@ -1,5 +1,6 @@
 -- The laws that the proofs of the functions cite.
 pub mod Chains
+pub mod Alike
 pub mod Settling
 pub mod Steps
 pub mod Rounds

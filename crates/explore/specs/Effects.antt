@@ -2,10 +2,13 @@
 --     effectBy rule order marks    the effect: the memory after the move, and span times the priority
 --     IsEffect rule order marks e  e is the effect, and its priority is a byte
 --     keyStep, keyPlan             the rows of a task as keys: a cell's code and the effect of its marks on the memory
---     EffectsTo rule order first m cells effects      the effects of the m cells from `first` on, one by one
+--     SameMarks first m cells      the m cells from `first` on have the same marks
+--     Strides first m cells r      r is at most 1, and 0 only if they do
+--     EffectsTo rule order first n cells effects      the effects of n cells on a memory, one by one
+--     EffectsOn rule order first m r cells effects    the effects of m cells on a memory, that of cell a at place a · r
 use mathlib.Core.Path.{_≡_}
 use mathlib.Core.List.{List}
-use Prim.Native.Nat.{ℕ, _+_, _*_, _/_, _%_, _<_}
+use Prim.Native.Nat.{ℕ, _+_, _*_, _/_, _%_, _<_, _≤_}
 use lib.Dec.{eqb}
 use lib.ListN.{getD}
 use Rattle.rules.specs.Systems.{cell}
@@ -36,5 +39,16 @@ keyed m first step = record { letters = m; first = first; step = step; same = eq
 abbrev pub keyPlan : Task → List ℕ → Plan ℕ
 keyPlan t cells = keyed (t .letters) (t .start) (keyStep t cells)
 
+abbrev pub SameMarks : ℕ → ℕ → List ℕ → Type 0
+SameMarks first m cells = (a : ℕ) → a < m → marksIn (getD cells (first + a) 0) ≡ marksIn (getD cells first 0)
+
+pub record Strides (first m : ℕ) (cells : List ℕ) (r : ℕ) : Type 0 where
+  pub most : r ≤ 1
+  pub same : r ≡ 0 → SameMarks first m cells
+
 abbrev pub EffectsTo : Rule → ℕ → ℕ → ℕ → List ℕ → List ℕ → Type 0
 EffectsTo rule order first n cells effects = (a : ℕ) → a < n → IsEffect rule order (marksIn (getD cells (first + a) 0)) (getD effects a 0)
+
+pub record EffectsOn (rule : Rule) (order first m r : ℕ) (cells effects : List ℕ) : Type 0 where
+  pub most : r ≤ 1
+  pub each : (a : ℕ) → a < m → IsEffect rule order (marksIn (getD cells (first + a) 0)) (getD effects (a * r) 0)

@@ -109,14 +109,14 @@ fn read_row(
     let key = keys[i];
     let first = (key / SPAN) as usize * m;
     let mut effects = [0; MAX_LETTERS as usize];
-    write_effects(rule, key % SPAN, cells, first, m, &mut effects);
+    let stride = write_effects(rule, key % SPAN, cells, first, m, &mut effects);
     let mut known = n;
     let mut a = 0;
     // row i is read by the letters below a
     while (a < task.letters) & (known <= capacity) {
         known = read_cell(
             cells[first + a],
-            effects[a],
+            effects[a * stride],
             i * task.letters + a,
             known,
             capacity,

@@ -12,10 +12,10 @@ use Rattle.explore.proofs.effects.write_by_pairs.Statement.{statement}
 use Rattle.explore.proofs.effects.write_by_pairs.Tie as tie
 
 abbrev Inv-loop : tie.InvT-loop
-Inv-loop memory cells first m effects₀ a₀ effects a = Filled (λ b e. IsEffect Pairs memory (marksIn (getD cells (first + b) 0)) e) effects₀ effects a
+Inv-loop memory cells first n effects₀ a₀ effects a = Filled (λ b e. IsEffect Pairs memory (marksIn (getD cells (first + b) 0)) e) effects₀ effects a
 
 abbrev μ-loop : tie.MeasureT-loop
-μ-loop memory cells first m effects₀ a₀ effects a = m - a
+μ-loop memory cells first n effects₀ a₀ effects a = n - a
 
 loop-again : tie.Need-loop-again Inv-loop μ-loop
 loop-again c =

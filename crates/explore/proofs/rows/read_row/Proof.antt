@@ -18,12 +18,12 @@ use Rattle.explore.proofs.rows.read_row.Statement.{statement}
 use Rattle.explore.proofs.rows.read_row.Tie as tie
 
 abbrev Inv-loop : tie.InvT-loop
-Inv-loop task cells i n capacity keys₀ heads₀ links₀ targets₀ priorities₀ m key first effects known₀ a₀ keys heads links targets priorities known a =
+Inv-loop task cells i n capacity keys₀ heads₀ links₀ targets₀ priorities₀ m key first effects stride known₀ a₀ keys heads links targets priorities known a =
     RowPart task cells capacity n i a keys₀ keys targets₀ targets priorities₀ priorities known × (known ≤ capacity → Linked known keys heads links)
     × (length heads ≡ length heads₀) × (length links ≡ length links₀)
 
 abbrev μ-loop : tie.MeasureT-loop
-μ-loop task cells i n capacity keys₀ heads₀ links₀ targets₀ priorities₀ m key first effects known₀ a₀ keys heads links targets priorities known a = task .letters - a
+μ-loop task cells i n capacity keys₀ heads₀ links₀ targets₀ priorities₀ m key first effects stride known₀ a₀ keys heads links targets priorities known a = task .letters - a
 
 -- what holds at the entry
 module _ (c : tie.Start Inv-loop μ-loop) where
@@ -57,8 +57,12 @@ room c l =
     let s = c .before .before .before .before .before .before .before .before .before .before .before .before .before in
     omega (arith, i .inv .3, s .pre .4 (i .known) l (omega (arith, i .inv .0 .most, tests c .0)))
 
-letter-few : (c : tie.Then1 Inv-loop μ-loop) → c .before .before .loop .a < maxLetters
-letter-few c = omega (arith, tests c .0, c .before .before .before .before .before .before .before .before .before .before .before .before .before .pre .0 .most-letters)
+-- an effect is at no later place than its letter
+place-few : (c : tie.Then1 Inv-loop μ-loop) → c .before .before .loop .a * c .before .before .before .before .write-effects .result < maxLetters
+place-few c =
+    let w = c .before .before .before .before .write-effects in
+    let l : c .before .before .loop .a * w .result ≤ c .before .before .loop .a * 1 = mul-le-mul (omega arith) (w .ensures .most) in
+    omega (arith, l, tests c .0, c .before .before .before .before .before .before .before .before .before .before .before .before .before .pre .0 .most-letters)
 
 cast-first : tie.Need-cast-first Inv-loop μ-loop
 cast-first c =
@@ -68,13 +72,13 @@ cast-first c =
 write-effects-requires : tie.Need-write-effects-requires Inv-loop μ-loop
 write-effects-requires c κs =
     let s = c .before .before .before .before .before .before .before .before in
-    (omega arith, s .pre .0 .most-letters, row-cells s, omega arith)
+    (omega arith, s .pre .0 .most-letters, s .pre .0 .some-letters, row-cells s, omega arith)
 
 shared-slice-read-read-cell : tie.Need-shared-slice-read-read-cell Inv-loop μ-loop
 shared-slice-read-read-cell c = omega (arith, tests (c .before) .0, row-cells (c .before .before .before .before .before .before .before .before .before .before .before .before .before .before))
 
-mul-read-cell-3 : tie.Need-mul-read-cell-3 Inv-loop μ-loop
-mul-read-cell-3 c = omega (arith, in-rows (c .before .before .before .before .before .before .before .before .before .before .before .before .before .before .before), few-rows (c .before .before .before .before .before .before .before .before .before .before .before .before .before .before .before))
+mul-read-cell-4 : tie.Need-mul-read-cell-4 Inv-loop μ-loop
+mul-read-cell-4 c = omega (arith, in-rows (c .before .before .before .before .before .before .before .before .before .before .before .before .before .before .before), few-rows (c .before .before .before .before .before .before .before .before .before .before .before .before .before .before .before))
 
 add-read-cell-2 : tie.Need-add-read-cell-2 Inv-loop μ-loop
 add-read-cell-2 c = omega (arith, tests (c .before .before) .0, in-rows (c .before .before .before .before .before .before .before .before .before .before .before .before .before .before .before), few-rows (c .before .before .before .before .before .before .before .before .before .before .before .before .before .before .before))
@@ -84,7 +88,7 @@ read-cell-requires c κs =
     let u = c .before .before .before .before .before .before .before in
     let s = c .before .before .before .before .before .before .before .before .before .before .before .before .before .before .before .before .before .before .before .before in
     let k = c .before .before .before .before .before .before .before .before .before .loop .inv .0 .known (tests u .1) in
-    (k .filed, c .before .before .before .before .before .before .before .before .before .loop .inv .1 (tests u .1), λ l. room u l, c .before .before .before .before .before .before .before .before .before .before .before .write-effects .ensures (c .before .before .before .before .before .before .before .before .before .loop .a) (tests u .0) .small, omega (arith, tests u .0, in-rows s, k .target-room), omega (arith, tests u .0, in-rows s, k .priority-room))
+    (k .filed, c .before .before .before .before .before .before .before .before .before .loop .inv .1 (tests u .1), λ l. room u l, c .before .before .before .before .before .before .before .before .before .before .before .write-effects .ensures .each (c .before .before .before .before .before .before .before .before .before .loop .a) (tests u .0) .small, omega (arith, tests u .0, in-rows s, k .target-room), omega (arith, tests u .0, in-rows s, k .priority-room))
 
 add-a : tie.Need-add-a Inv-loop μ-loop
 add-a c = omega (arith, tests (c .before .before .before .before .before .before .before .before .before .before .before .before .before .before .before .before .before .before) .0, c .before .before .before .before .before .before .before .before .before .before .before .before .before .before .before .before .before .before .before .before .before .before .before .before .before .before .before .before .before .before .before .pre .0 .most-letters)
@@ -99,7 +103,7 @@ loop-again c =
     let turn = c .before .before .before .before .before .before .before .before .before .before .before .before .before .before .before .before .before .before .before .before .loop in
     let f = turn .inv in
     let call = c .before .before .before .before .before .before .before .before .before .before .read-cell in
-    let effect = c .before .before .before .before .before .before .before .before .before .before .before .before .before .before .before .before .before .before .before .before .before .before .write-effects .ensures (turn .a) (tests u .0) in
+    let effect = c .before .before .before .before .before .before .before .before .before .before .before .before .before .before .before .before .before .before .before .before .before .before .write-effects .ensures .each (turn .a) (tests u .0) in
     let step = step-here (s .args .task) (s .args .cells .now) (v s) (getD (turn .keys) (s .args .i) 0) (turn .a) _ _ (f .0 .front (tests u .1)) refl (effect .is) in
     (row-next (s .args .task) (s .args .cells .now) _ _ _ _ _ _ _ _ _ _ _ _ _ _ _ (s .pre .0) (s .pre .1) (tests u .0) (tests u .1) (f .0) _ step (call .ensures .0), call .ensures .1, call .kept .1 .1 .1 .1 .1 .1 .0 ∙ f .2, call .kept .1 .1 .1 .1 .1 .1 .1 .0 ∙ f .3)
 
@@ -116,8 +120,8 @@ read-row-spec =
     (λ c. (row-begun _ _ _ _ _ _ _ _ (c .before .before .before .before .before .before .before .before .before .before .pre .2), λ h. c .before .before .before .before .before .before .before .before .before .before .pre .3, refl, refl))
     (λ c. omega (arith, tests c .0, row-cells (c .before .before .before .before .before .before .before .before .before .before .before .before .before)))
     (λ c. omega (arith, tests c .0, row-cells (c .before .before .before .before .before .before .before .before .before .before .before .before .before)))
-    shared-slice-read-read-cell (λ c. omega (arith, letter-few (c .before)))
-    (λ c. omega (arith, letter-few (c .before))) mul-read-cell-3 add-read-cell-2 read-cell-requires add-a
+    shared-slice-read-read-cell (λ c. omega (arith, place-few (c .before))) (λ c. omega (arith, place-few (c .before)))
+    (λ c. omega (arith, place-few (c .before))) mul-read-cell-4 add-read-cell-2 read-cell-requires add-a
     loop-less loop-again (λ c. c .before .before .loop .inv .0 .key-rest .size) (λ c. c .before .before .loop .inv .2)
     (λ c. c .before .before .loop .inv .3) (λ c. c .before .before .loop .inv .0 .target-rest .size)
     (λ c. c .before .before .loop .inv .0 .priority-rest .size) returns)
