@@ -25,7 +25,7 @@ use Rattle.explore.specs.declared.Task.{Task}
 use Rattle.explore.specs.declared.Explored.the-variants.{Rows, Full, Unfit}
 use Rattle.explore.specs.Cells.{sourceIn, strays}
 use Rattle.explore.specs.Effects.{keyPlan}
-use Rattle.explore.specs.Exploring.{statesIn, isUnfit, Closed, Room, RowsPart, ExploresAll, ExploreSays}
+use Rattle.explore.specs.Exploring.{statesIn, isUnfit, Closed, Room, RowsPart, ExploresAll, ExploreSays, lent}
 use Rattle.rules.proofs.Filling.{beyond-then, beyond-wider, cells-over, front-over}
 use Rattle.explore.proofs.Rounds.{all-read, all-over}
 
@@ -58,8 +58,8 @@ module _ (t : Task) (cells : List ℕ) where
   abbrev g : Plan ℕ
   g = keyPlan t cells
 
-  module _ (c i : ℕ) (keys keys′ ts ts′ ps ps′ : List ℕ) (r : ℕ) (part : RowsPart t cells c i keys keys′ ts ts′ ps ps′ r) where
-    pub rows-done : (i < r → r ≤ c → ⊥) → ExploresAll t cells c keys keys′ ts ts′ ps ps′ r
+  module _ (c i : ℕ) (keys keys′ ts ts′ ps ps′ : List ℕ) (r : ℕ) (part : RowsPart t cells c i (lent keys ts ps) (lent keys′ ts′ ps′) r) where
+    pub rows-done : (i < r → r ≤ c → ⊥) → ExploresAll t cells c (lent keys ts ps) (lent keys′ ts′ ps′) r
     rows-done ended =
         by
         (ltb c r)
@@ -69,8 +69,8 @@ module _ (t : Task) (cells : List ℕ) where
         let p = rw z at part in
         all-read t cells c keys ts ps r keys′ ts′ ps′ few (p .stage few) (p .new-rest few) (p .target-rest) (p .priority-rest))
 
-    pub many-after : r ≤ c → (keys″ ts″ ps″ : List ℕ) (r′ : ℕ) → r ≤ r′ → ExploresAll t cells c keys′ keys″ ts′ ts″ ps′ ps″ r′
-        → ExploresAll t cells c keys keys″ ts ts″ ps ps″ r′
+    pub many-after : r ≤ c → (keys″ ts″ ps″ : List ℕ) (r′ : ℕ) → r ≤ r′ → ExploresAll t cells c (lent keys′ ts′ ps′) (lent keys″ ts″ ps″) r′
+        → ExploresAll t cells c (lent keys ts ps) (lent keys″ ts″ ps″) r′
     many-after h keys″ ts″ ps″ r′ more x =
         let within = part .stage h .within in
         let rest = part .new-rest h in
@@ -88,15 +88,15 @@ module _ (t : Task) (cells : List ℕ) where
 
 -- ---- the answers
 module _ (t : Task) (cells : List ℕ) (c : ℕ) (keys ts ps : List ℕ) where
-  pub answer-unfit : isUnfit t cells c (length keys) (length ts) (length ps) ≡ true → ExploreSays t cells c keys keys ts ts ps ps Unfit
+  pub answer-unfit : isUnfit t cells c (length keys) (length ts) (length ps) ≡ true → ExploreSays t cells c (lent keys ts ps) (lent keys ts ps) Unfit
   answer-unfit h = record { answer = rw h; arrays = (refl, refl, refl) }
 
-  module _ (fit : isUnfit t cells c (length keys) (length ts) (length ps) ≡ false) (keys′ ts′ ps′ : List ℕ) (r : ℕ) (x : ExploresAll t cells c keys keys′ ts ts′ ps ps′ r) where
-    pub answer-full : c < r → ExploreSays t cells c keys keys′ ts ts′ ps ps′ Full
+  module _ (fit : isUnfit t cells c (length keys) (length ts) (length ps) ≡ false) (keys′ ts′ ps′ : List ℕ) (r : ℕ) (x : ExploresAll t cells c (lent keys ts ps) (lent keys′ ts′ ps′) r) where
+    pub answer-full : c < r → ExploreSays t cells c (lent keys ts ps) (lent keys′ ts′ ps′) Full
     answer-full more =
         record { answer = rw (fit, sym (x .full) ∙ lt-ltb c r more); arrays = (x .key-rest, x .target-rest, x .priority-rest) }
 
-    pub answer-rows : r ≤ c → ExploreSays t cells c keys keys′ ts ts′ ps ps′ (Rows r)
+    pub answer-rows : r ≤ c → ExploreSays t cells c (lent keys ts ps) (lent keys′ ts′ ps′) (Rows r)
     answer-rows few =
         let s = fit-sizes t cells c keys ts ps fit in
         let k = s .1 .key-room in

@@ -24,23 +24,23 @@ use Rattle.explore.specs.declared.Task.{Task}
 use Rattle.rules.specs.Arrays.{Beyond}
 use Rattle.explore.specs.Filing.{Filed}
 use Rattle.explore.specs.Effects.{keyStep, keyPlan}
-use Rattle.explore.specs.Exploring.{Fits, Closed, Room, StepRead, Known, RowSays, Stage, RowsPart, ExploresAll}
+use Rattle.explore.specs.Exploring.{Fits, Closed, Room, StepRead, Known, RowSays, Stage, RowsPart, ExploresAll, lent, Lent}
 use Rattle.rules.proofs.Filling.{beyond-none, beyond-set, beyond-then, beyond-wider}
 use Rattle.rules.proofs.Reading.{read-none}
 use Rattle.explore.proofs.Steps.{keyed-same, key-row, step-count, step-most, step-rows, step-front, step-rest, step-known}
 
-pub record RowPart (t : Task) (cells : List ℕ) (c n i a : ℕ) (keys keys′ ts ts′ ps ps′ : List ℕ) (r : ℕ) : Type 0 where
+pub record RowPart (t : Task) (cells : List ℕ) (c n i a : ℕ) (o o′ : Lent) (r : ℕ) : Type 0 where
   pub letters : a ≤ t .letters
-  pub known : r ≤ c → Known t cells c r (cell (t .letters) i a) keys′ ts′ ps′
-  pub rows : r ≤ c → take r keys′ ≡ foundBy a 0 (keyPlan t cells) (getD keys i 0) (take n keys)
-  pub over : c < r → c < length (foundBy a 0 (keyPlan t cells) (getD keys i 0) (take n keys))
+  pub known : r ≤ c → Known t cells c r (cell (t .letters) i a) o′
+  pub rows : r ≤ c → take r (o′ .keys) ≡ foundBy a 0 (keyPlan t cells) (getD (o .keys) i 0) (take n (o .keys))
+  pub over : c < r → c < length (foundBy a 0 (keyPlan t cells) (getD (o .keys) i 0) (take n (o .keys)))
   pub longer : n ≤ r
   pub most : r ≤ n + a
-  pub front : r ≤ c → getD keys′ i 0 ≡ getD keys i 0
-  pub key-rest : Beyond c keys keys′
-  pub new-rest : r ≤ c → Beyond r keys keys′
-  pub target-rest : Beyond (suc i * t .letters) ts ts′
-  pub priority-rest : Beyond (suc i * t .letters) ps ps′
+  pub front : r ≤ c → getD (o′ .keys) i 0 ≡ getD (o .keys) i 0
+  pub key-rest : Beyond c (o .keys) (o′ .keys)
+  pub new-rest : r ≤ c → Beyond r (o .keys) (o′ .keys)
+  pub target-rest : Beyond (suc i * t .letters) (o .targets) (o′ .targets)
+  pub priority-rest : Beyond (suc i * t .letters) (o .priorities) (o′ .priorities)
 
 module _ (t : Task) (cells : List ℕ) where
   abbrev g : Plan ℕ
@@ -59,7 +59,7 @@ module _ (t : Task) (cells : List ℕ) where
     abbrev v : ℕ
     v = getD keys i 0
 
-    pub row-begun : Known t cells c n (i * m) keys ts ps → RowPart t cells c n i 0 keys keys ts ts ps ps n
+    pub row-begun : Known t cells c n (i * m) (lent keys ts ps) → RowPart t cells c n i 0 (lent keys ts ps) (lent keys ts ps) n
     row-begun k =
         let e : i * m ≡ cell m i 0 = omega arith in
         record {
@@ -77,13 +77,13 @@ module _ (t : Task) (cells : List ℕ) where
         }
 
     pub row-next : (a r r′ : ℕ) (keys₁ ts₁ ps₁ keys₂ ts₂ ps₂ : List ℕ) → Closed t cells → i < n → a < m → r ≤ c
-        → RowPart t cells c n i a keys keys₁ ts ts₁ ps ps₁ r
-        → (x : Step ℕ) → x ≡ g .step (getD keys₁ i 0) a → StepRead x c r (cell m i a) keys₁ keys₂ ts₁ ts₂ ps₁ ps₂ r′
-        → RowPart t cells c n i (a + 1) keys keys₂ ts ts₂ ps ps₂ r′
+        → RowPart t cells c n i a (lent keys ts ps) (lent keys₁ ts₁ ps₁) r
+        → (x : Step ℕ) → x ≡ g .step (getD keys₁ i 0) a → StepRead x c r (cell m i a) (lent keys₁ ts₁ ps₁) (lent keys₂ ts₂ ps₂) r′
+        → RowPart t cells c n i (a + 1) (lent keys ts ps) (lent keys₂ ts₂ ps₂) r′
     row-next a r r′ keys₁ ts₁ ps₁ keys₂ ts₂ ps₂ closed li la few f x same x-read =
         record {
           letters = omega arith;
-          known = λ h. rw next-cell at (step-known t cells closed c r i a keys₁ ts₁ ps₁ lr la k keys₂ ts₂ ps₂ r′ s h);
+          known = λ h. let e : suc (cell m i a) ≡ cell m i (a + 1) = omega arith in rw e at (step-known t cells closed c r i a keys₁ ts₁ ps₁ lr la k keys₂ ts₂ ps₂ r′ s h);
           rows = λ h. step-rows t cells closed c r i a keys₁ ts₁ ps₁ lr la k keys₂ ts₂ ps₂ r′ s h ∙ met-next;
           over = λ h. rw (← met-next, ← count) h;
           longer = omega (arith, grown, f .longer);
@@ -95,10 +95,10 @@ module _ (t : Task) (cells : List ℕ) where
           priority-rest = beyond-then (f .priority-rest) (rw (s .priority-array) (beyond-set (suc i * m) ps₁ (cell m i a) _ within));
         }
       where
-        s : StepRead (g .step (getD keys₁ i 0) a) c r (cell m i a) keys₁ keys₂ ts₁ ts₂ ps₁ ps₂ r′
+        s : StepRead (g .step (getD keys₁ i 0) a) c r (cell m i a) (lent keys₁ ts₁ ps₁) (lent keys₂ ts₂ ps₂) r′
         s = rw same at x-read
 
-        k : Known t cells c r (cell m i a) keys₁ ts₁ ps₁
+        k : Known t cells c r (cell m i a) (lent keys₁ ts₁ ps₁)
         k = f .known few
 
         lr : i < r
@@ -114,16 +114,13 @@ module _ (t : Task) (cells : List ℕ) where
         grown =
             omega (arith, count, length-take-le r keys₁ (omega (arith, k .filed .few, k .filed .key-room)), met-longer g law (take r keys₁) (getD keys₁ i 0) a)
 
-        next-cell : suc (cell m i a) ≡ cell m i (a + 1)
-        next-cell = omega arith
-
         met-next : met g (take r keys₁) (getD keys₁ i 0) a ≡ foundBy (a + 1) 0 g v rs
         met-next =
             let e : 0 + a ≡ a = omega arith in
             rw (f .front few, f .rows few, add-one) (sym (by-next g law a 0 v rs ∙ rw e))
 
     pub row-done : (a r : ℕ) (keys′ ts′ ps′ : List ℕ) → ltb a m && leb r c ≡ false
-        → RowPart t cells c n i a keys keys′ ts ts′ ps ps′ r → RowSays t cells c n i keys keys′ ts ts′ ps ps′ r
+        → RowPart t cells c n i a (lent keys ts ps) (lent keys′ ts′ ps′) r → RowSays t cells c n i (lent keys ts ps) (lent keys′ ts′ ps′) r
     row-done a r keys′ ts′ ps′ test f =
         record {
           known = λ h. rw (all-cells h) at (f .known h);
@@ -152,7 +149,7 @@ module _ (t : Task) (cells : List ℕ) where
   abbrev plan : Plan ℕ
   plan = keyPlan t cells
 
-  pub stage-begun : (c : ℕ) (old ts ps : List ℕ) → Closed t cells → Room (t .letters) c ts ps old → Stage t cells c 0 1 (set old 0 (t .start)) ts ps
+  pub stage-begun : (c : ℕ) (old ts ps : List ℕ) → Closed t cells → Room (t .letters) c ts ps old → Stage t cells c 0 1 (lent (set old 0 (t .start)) ts ps)
   unfolding rowsOf
   stage-begun c old ts ps closed room =
       record {
@@ -178,7 +175,7 @@ module _ (t : Task) (cells : List ℕ) where
       one-key j l = let z : j ≡ 0 = omega arith in rw (z, getD-set-same old 0 (t .start) 0 some) (closed .start)
 
   module _ (c : ℕ) (keys ts ps : List ℕ) where
-    pub part-begun : (i n : ℕ) → Stage t cells c i n keys ts ps → RowsPart t cells c i keys keys ts ts ps ps n
+    pub part-begun : (i n : ℕ) → Stage t cells c i n (lent keys ts ps) → RowsPart t cells c i (lent keys ts ps) (lent keys ts ps) n
     part-begun i n s =
         record {
           few = omega (arith, s .within, s .known .filed .few);
@@ -191,8 +188,8 @@ module _ (t : Task) (cells : List ℕ) where
         }
 
     -- the first row was filed before
-    pub part-after : (i r v : ℕ) (keys′ ts′ ps′ : List ℕ) → 1 ≤ c → 1 ≤ r → RowsPart t cells c i (set keys 0 v) keys′ ts ts′ ps ps′ r
-        → RowsPart t cells c i keys keys′ ts ts′ ps ps′ r
+    pub part-after : (i r v : ℕ) (keys′ ts′ ps′ : List ℕ) → 1 ≤ c → 1 ≤ r → RowsPart t cells c i (lent (set keys 0 v) ts ps) (lent keys′ ts′ ps′) r
+        → RowsPart t cells c i (lent keys ts ps) (lent keys′ ts′ ps′) r
     part-after i r v keys′ ts′ ps′ some one f =
         record {
           few = f .few;
@@ -205,8 +202,8 @@ module _ (t : Task) (cells : List ℕ) where
         }
 
     pub rows-next : (i r r′ : ℕ) (keys₁ ts₁ ps₁ keys₂ ts₂ ps₂ : List ℕ) → i < r → r ≤ c
-        → RowsPart t cells c i keys keys₁ ts ts₁ ps ps₁ r → RowSays t cells c r i keys₁ keys₂ ts₁ ts₂ ps₁ ps₂ r′
-        → RowsPart t cells c (i + 1) keys keys₂ ts ts₂ ps ps₂ r′
+        → RowsPart t cells c i (lent keys ts ps) (lent keys₁ ts₁ ps₁) r → RowSays t cells c r i (lent keys₁ ts₁ ps₁) (lent keys₂ ts₂ ps₂) r′
+        → RowsPart t cells c (i + 1) (lent keys ts ps) (lent keys₂ ts₂ ps₂) r′
     rows-next i r r′ keys₁ ts₁ ps₁ keys₂ ts₂ ps₂ li few f s =
         record {
           few = omega arith;
@@ -221,7 +218,7 @@ module _ (t : Task) (cells : List ℕ) where
         found : List ℕ
         found = foundBy (t .letters) 0 plan (getD keys₁ i 0) (take r keys₁)
 
-        before : Stage t cells c i r keys₁ ts₁ ps₁
+        before : Stage t cells c i r (lent keys₁ ts₁ ps₁)
         before = f .stage few
 
         room : r ≤ length keys₁
@@ -242,8 +239,8 @@ module _ (t : Task) (cells : List ℕ) where
             (rw e at (before .goes-on d l)) ∙ from-on plan (law t cells) (d - i) i d (take r keys₁) (rw (length-take-le r keys₁ room) (and-both (ltb i r) (leb r d) (lt-ltb i r li) (le-leb r d l))) ∙ rw (key-row plan r keys₁ i li room)
 
     -- what was found, of all rows
-    pub all-read : (r : ℕ) (keys′ ts′ ps′ : List ℕ) → r ≤ c → Stage t cells c r r keys′ ts′ ps′ → Beyond r keys keys′
-        → Beyond (r * t .letters) ts ts′ → Beyond (r * t .letters) ps ps′ → ExploresAll t cells c keys keys′ ts ts′ ps ps′ r
+    pub all-read : (r : ℕ) (keys′ ts′ ps′ : List ℕ) → r ≤ c → Stage t cells c r r (lent keys′ ts′ ps′) → Beyond r keys keys′
+        → Beyond (r * t .letters) ts ts′ → Beyond (r * t .letters) ps ps′ → ExploresAll t cells c (lent keys ts ps) (lent keys′ ts′ ps′) r
     all-read r keys′ ts′ ps′ few s a b d =
         record {
           full = le-ltb c r few ∙ sym (le-ltb c (length (rowsOf plan c)) (omega (arith, many)));
@@ -269,8 +266,8 @@ module _ (t : Task) (cells : List ℕ) where
         many : length (rowsOf plan c) ≡ r
         many = ap length rows-are ∙ size
 
-    pub all-over : (i r : ℕ) (keys′ ts′ ps′ : List ℕ) → c < r → RowsPart t cells c i keys keys′ ts ts′ ps ps′ r
-        → ExploresAll t cells c keys keys′ ts ts′ ps ps′ r
+    pub all-over : (i r : ℕ) (keys′ ts′ ps′ : List ℕ) → c < r → RowsPart t cells c i (lent keys ts ps) (lent keys′ ts′ ps′) r
+        → ExploresAll t cells c (lent keys ts ps) (lent keys′ ts′ ps′) r
     all-over i r keys′ ts′ ps′ more f =
         record {
           full = lt-ltb c r more ∙ sym (lt-ltb c (length (rowsOf plan c)) (f .over more));

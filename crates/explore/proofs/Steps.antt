@@ -28,7 +28,7 @@ use Rattle.rules.specs.Arrays.{Beyond}
 use Rattle.explore.specs.Index.{numberAmong}
 use Rattle.explore.specs.Cells.{span, keyOf, sourceIn, memoryIn, crossingKind, insideKind, targetIn, marksIn, stateIn, strays, stepIn}
 use Rattle.explore.specs.Effects.{effectBy, keyed, keyStep, keyPlan}
-use Rattle.explore.specs.Exploring.{statesIn, Fits, Closed, StepRead, Known}
+use Rattle.explore.specs.Exploring.{statesIn, Fits, Closed, StepRead, Known, lent}
 use Rattle.explore.specs.Filing.{Filed, rowsAfter, Settles}
 use Rattle.rules.proofs.Filling.{beyond-none, beyond-set}
 use Rattle.rules.proofs.Reading.{met-missing, met-there, target-there, step-found, read-more}
@@ -86,7 +86,7 @@ module _ (t : Task) (cells : List ℕ) (closed : Closed t cells) where
       let w = getD cells (cell m (sourceIn v) a) 0 in
       code-fits m cells w (effectBy (t .rule) (memoryIn v) (marksIn w)) (closed .leads (cell m (sourceIn v) a) (cell-fits m cells v a fits l))
 
-  module _ (c n i a : ℕ) (keys ts ps : List ℕ) (li : i < n) (la : a < m) (k : Known t cells c n (cell m i a) keys ts ps) where
+  module _ (c n i a : ℕ) (keys ts ps : List ℕ) (li : i < n) (la : a < m) (k : Known t cells c n (cell m i a) (lent keys ts ps)) where
     abbrev v : ℕ
     v = getD keys i 0
 
@@ -123,7 +123,7 @@ module _ (t : Task) (cells : List ℕ) (closed : Closed t cells) where
     target-is : pick (x .there) number noRow ≡ targetNumber g noRow more v a
     target-is = by (x .there) (λ e. ap (λ (b : Bool). pick b number noRow) e ∙ sym (step-found g law rs v a e .0) ∙ sym (target-there g noRow more v a e)) (λ e. rw e)
 
-    module _ (keys′ ts′ ps′ : List ℕ) (r : ℕ) (s : StepRead x c n p keys keys′ ts ts′ ps ps′ r) where
+    module _ (keys′ ts′ ps′ : List ℕ) (r : ℕ) (s : StepRead x c n p (lent keys ts ps) (lent keys′ ts′ ps′) r) where
       by-outcome : {C : Type 0} → (x .there ≡ true → r ≡ suc n → (r ≤ c → keys′ ≡ set keys n (x .to)) → more ≡ rs ++ (x .to ∷ []) → C)
           → (r ≡ n → (r ≤ c → keys′ ≡ keys) → more ≡ rs → C) → C
       by-outcome f h =
@@ -170,7 +170,7 @@ module _ (t : Task) (cells : List ℕ) (closed : Closed t cells) where
           (s .target-array, s .priority-array)
           (rw row-is at (read-more g law noRow rs i a p ts ps (k .read) refl (omega (arith, rows-many)) la (pick (x .there) number noRow) (x .prio) (omega (arith, within, k .target-room)) (omega (arith, within, k .priority-room)) (rw row-is target-is) (rw row-is)))
 
-      pub step-known : r ≤ c → Known t cells c r (suc p) keys′ ts′ ps′
+      pub step-known : r ≤ c → Known t cells c r (suc p) (lent keys′ ts′ ps′)
       step-known q =
           record {
             filed = s .filed q;
@@ -182,7 +182,7 @@ module _ (t : Task) (cells : List ℕ) (closed : Closed t cells) where
 
 -- ---- what a function that reads a cell has done
 module _ (w e c n p : ℕ) (keys ts ps : List ℕ) where
-  pub read-missing : ltb w crossingKind ≡ true → Filed c n keys → StepRead (stepIn w e) c n p keys keys ts (set ts p noRow) ps (set ps p 0) n
+  pub read-missing : ltb w crossingKind ≡ true → Filed c n keys → StepRead (stepIn w e) c n p (lent keys ts ps) (lent keys (set ts p noRow) (set ps p 0)) n
   unfolding stepIn
   read-missing f k =
       record {
@@ -200,7 +200,7 @@ module _ (w e c n p : ℕ) (keys ts ps : List ℕ) where
 
   pub read-there : (key prio number r : ℕ) (keys′ : List ℕ) → ltb w crossingKind ≡ false → key ≡ stepIn w e .to → prio ≡ stepIn w e .prio
       → Settles c key n keys keys′ number → r ≡ rowsAfter n number
-      → StepRead (stepIn w e) c n p keys keys′ ts (set ts p number) ps (set ps p prio) r
+      → StepRead (stepIn w e) c n p (lent keys ts ps) (lent keys′ (set ts p number) (set ps p prio)) r
   read-there key prio number r keys′ f k q s z =
       let t = step-there f in
       let same : number ≡ numberAmong (stepIn w e .to) n keys = s .number ∙ ap (λ (y : ℕ). numberAmong y n keys) k in

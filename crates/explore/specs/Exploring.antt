@@ -5,18 +5,19 @@
 --     Fits m cells v               the cells of the key's state are among the cells
 --     Closed t cells               the letters are in range, and the start and every code lead to keys that fit
 --     Room m c ts ps keys          the capacity c is in range, and the lent arrays have room for as many rows
+--     Lent, lent keys ts ps        the keys, targets and priorities of rows, in three arrays; a prime marks them at exit
 --     LinkRoom c k links           there is a link for each place below both c and k
---     StepRead x c n p ..          a cell whose step is x has been read; there is no plan here
+--     StepRead x c n p (lent .. cell step) (lent a whose is) x has been read; there is no plan here
 --     Known t cells c n p ..       n keys are filed, the cells below p are read
---     RowSays t cells c n i ..     row i has been read by all letters
+--     RowSays t cells c n i (lent .. i been) (lent row has read) by all letters
 --     Stage t cells c i n ..       the rows below i are read, n are known, and the exploration goes on from here, whatever the capacity
---     RowsPart t cells c i .. r    what reading the rows below i leaves, r being known: a stage, or more than c
---     RowsSay t cells n l c i .. r the same from n known rows on, where all rows were read or more than l are known
---     ExploresAll t cells c .. r   all rows have been read, or more than c were found
+--     RowsPart t cells c i (lent .. what the) (lent r reading rows) below i leaves, r being known: a stage, or more than c
+--     RowsSay t cells n l c i (lent .. the from) (lent r same n) known rows on, where all rows were read or more than l are known
+--     ExploresAll t cells c (lent .. all have) (lent r rows been) read, or more than c were found
 --     exploredOf t cells c k a b   the answer of an exploration
---     Leaves x t cells c ..        what the arrays hold after the answer x: the rows, and what was there behind them; after Full the first c
+--     Leaves x t cells c (lent .. the hold) (lent what arrays after) the answer x: the rows, and what was there behind them; after Full the first c
 --                                  rows of each are left open, and only what is behind them is as it was; after Unfit all is as it was
---     ExploreSays t cells c .. x   an exploration: the answer and the arrays
+--     ExploreSays t cells c (lent .. an the) (lent x exploration: answer) and the arrays
 use mathlib.Core.Path.{_≡_}
 use mathlib.Core.Bool.{Bool, false, _&&_, _||_}
 use mathlib.Core.List.{List}
@@ -64,76 +65,85 @@ pub record Room (m c : ℕ) (ts ps keys : List ℕ) : Type 0 where
 abbrev pub LinkRoom : ℕ → ℕ → List ℕ → Type 0
 LinkRoom c k links = (x : ℕ) → x < c → x < k → x < length links
 
+-- ---- the lent arrays
+pub record Lent : Type 0 where
+  pub keys : List ℕ
+  pub targets : List ℕ
+  pub priorities : List ℕ
+
+abbrev pub lent : List ℕ → List ℕ → List ℕ → Lent
+lent ks ts ps = record { keys = ks; targets = ts; priorities = ps }
+
 -- ---- cells and rows that are read
-pub record StepRead (x : Step ℕ) (c n p : ℕ) (keys keys′ ts ts′ ps ps′ : List ℕ) (r : ℕ) : Type 0 where
-  pub count : r ≡ pick (x .there) (rowsAfter n (numberAmong (x .to) n keys)) n
-  pub filed : r ≤ c → Filed c r keys′
-  pub key-array : r ≤ c → keys′ ≡ pick (x .there) (pick (eqb (numberAmong (x .to) n keys) n) (set keys n (x .to)) keys) keys
-  pub target-array : ts′ ≡ set ts p (pick (x .there) (numberAmong (x .to) n keys) noRow)
-  pub priority-array : ps′ ≡ set ps p (x .prio)
-  pub key-rest : Beyond c keys keys′
+pub record StepRead (x : Step ℕ) (c n p : ℕ) (o o′ : Lent) (r : ℕ) : Type 0 where
+  pub count : r ≡ pick (x .there) (rowsAfter n (numberAmong (x .to) n (o .keys))) n
+  pub filed : r ≤ c → Filed c r (o′ .keys)
+  pub key-array : r ≤ c → o′ .keys ≡ pick (x .there) (pick (eqb (numberAmong (x .to) n (o .keys)) n) (set (o .keys) n (x .to)) (o .keys)) (o .keys)
+  pub target-array : o′ .targets ≡ set (o .targets) p (pick (x .there) (numberAmong (x .to) n (o .keys)) noRow)
+  pub priority-array : o′ .priorities ≡ set (o .priorities) p (x .prio)
+  pub key-rest : Beyond c (o .keys) (o′ .keys)
 
-pub record Known (t : Task) (cells : List ℕ) (c n p : ℕ) (keys ts ps : List ℕ) : Type 0 where
-  pub filed : Filed c n keys
-  pub fits : (i : ℕ) → i < n → Fits (t .letters) cells (getD keys i 0)
-  pub read : Read (keyPlan t cells) noRow (take n keys) p ts ps
-  pub target-room : c * t .letters ≤ length ts
-  pub priority-room : c * t .letters ≤ length ps
+pub record Known (t : Task) (cells : List ℕ) (c n p : ℕ) (o : Lent) : Type 0 where
+  pub filed : Filed c n (o .keys)
+  pub fits : (i : ℕ) → i < n → Fits (t .letters) cells (getD (o .keys) i 0)
+  pub read : Read (keyPlan t cells) noRow (take n (o .keys)) p (o .targets) (o .priorities)
+  pub target-room : c * t .letters ≤ length (o .targets)
+  pub priority-room : c * t .letters ≤ length (o .priorities)
 
-pub record RowSays (t : Task) (cells : List ℕ) (c n i : ℕ) (keys keys′ ts ts′ ps ps′ : List ℕ) (r : ℕ) : Type 0 where
-  pub known : r ≤ c → Known t cells c r (suc i * t .letters) keys′ ts′ ps′
-  pub rows : r ≤ c → take r keys′ ≡ foundBy (t .letters) 0 (keyPlan t cells) (getD keys i 0) (take n keys)
-  pub over : c < r → c < length (foundBy (t .letters) 0 (keyPlan t cells) (getD keys i 0) (take n keys))
+pub record RowSays (t : Task) (cells : List ℕ) (c n i : ℕ) (o o′ : Lent) (r : ℕ) : Type 0 where
+  pub known : r ≤ c → Known t cells c r (suc i * t .letters) o′
+  pub rows : r ≤ c → take r (o′ .keys) ≡ foundBy (t .letters) 0 (keyPlan t cells) (getD (o .keys) i 0) (take n (o .keys))
+  pub over : c < r → c < length (foundBy (t .letters) 0 (keyPlan t cells) (getD (o .keys) i 0) (take n (o .keys)))
   pub longer : n ≤ r
-  pub key-rest : Beyond c keys keys′
-  pub new-rest : r ≤ c → Beyond r keys keys′
-  pub target-rest : Beyond (suc i * t .letters) ts ts′
-  pub priority-rest : Beyond (suc i * t .letters) ps ps′
+  pub key-rest : Beyond c (o .keys) (o′ .keys)
+  pub new-rest : r ≤ c → Beyond r (o .keys) (o′ .keys)
+  pub target-rest : Beyond (suc i * t .letters) (o .targets) (o′ .targets)
+  pub priority-rest : Beyond (suc i * t .letters) (o .priorities) (o′ .priorities)
 
 -- ---- stages of the exploration
-pub record Stage (t : Task) (cells : List ℕ) (c i n : ℕ) (keys ts ps : List ℕ) : Type 0 where
+pub record Stage (t : Task) (cells : List ℕ) (c i n : ℕ) (o : Lent) : Type 0 where
   pub within : i ≤ n
-  pub known : Known t cells c n (i * t .letters) keys ts ps
-  pub goes-on : (d : ℕ) → n ≤ d → rowsOf (keyPlan t cells) d ≡ foundFrom (suc d - i) i (keyPlan t cells) d (take n keys)
+  pub known : Known t cells c n (i * t .letters) o
+  pub goes-on : (d : ℕ) → n ≤ d → rowsOf (keyPlan t cells) d ≡ foundFrom (suc d - i) i (keyPlan t cells) d (take n (o .keys))
 
-pub record RowsPart (t : Task) (cells : List ℕ) (c i : ℕ) (keys keys′ ts ts′ ps ps′ : List ℕ) (r : ℕ) : Type 0 where
+pub record RowsPart (t : Task) (cells : List ℕ) (c i : ℕ) (o o′ : Lent) (r : ℕ) : Type 0 where
   pub few : i ≤ c
-  pub stage : r ≤ c → Stage t cells c i r keys′ ts′ ps′
+  pub stage : r ≤ c → Stage t cells c i r o′
   pub over : c < r → c < length (rowsOf (keyPlan t cells) c)
-  pub key-rest : Beyond c keys keys′
-  pub new-rest : r ≤ c → Beyond r keys keys′
-  pub target-rest : Beyond (i * t .letters) ts ts′
-  pub priority-rest : Beyond (i * t .letters) ps ps′
+  pub key-rest : Beyond c (o .keys) (o′ .keys)
+  pub new-rest : r ≤ c → Beyond r (o .keys) (o′ .keys)
+  pub target-rest : Beyond (i * t .letters) (o .targets) (o′ .targets)
+  pub priority-rest : Beyond (i * t .letters) (o .priorities) (o′ .priorities)
 
-pub record RowsSay (t : Task) (cells : List ℕ) (n l c i : ℕ) (keys keys′ ts ts′ ps ps′ : List ℕ) (r : ℕ) : Type 0 where
-  pub part : RowsPart t cells c i keys keys′ ts ts′ ps ps′ r
+pub record RowsSay (t : Task) (cells : List ℕ) (n l c i : ℕ) (o o′ : Lent) (r : ℕ) : Type 0 where
+  pub part : RowsPart t cells c i o o′ r
   pub longer : n ≤ r
   pub ended : i < r → r ≤ l → r ≤ c → ⊥
 
-pub record ExploresAll (t : Task) (cells : List ℕ) (c : ℕ) (keys keys′ ts ts′ ps ps′ : List ℕ) (r : ℕ) : Type 0 where
+pub record ExploresAll (t : Task) (cells : List ℕ) (c : ℕ) (o o′ : Lent) (r : ℕ) : Type 0 where
   pub full : ltb c r ≡ isFull (keyPlan t cells) c
-  pub rows : r ≤ c → take r keys′ ≡ rowsOf (keyPlan t cells) c
-  pub read : r ≤ c → Read (keyPlan t cells) noRow (rowsOf (keyPlan t cells) c) (r * t .letters) ts′ ps′
-  pub key-rest : Beyond c keys keys′
-  pub target-rest : Beyond (c * t .letters) ts ts′
-  pub priority-rest : Beyond (c * t .letters) ps ps′
-  pub new-keys : r ≤ c → Beyond r keys keys′
-  pub new-targets : r ≤ c → Beyond (r * t .letters) ts ts′
-  pub new-priorities : r ≤ c → Beyond (r * t .letters) ps ps′
+  pub rows : r ≤ c → take r (o′ .keys) ≡ rowsOf (keyPlan t cells) c
+  pub read : r ≤ c → Read (keyPlan t cells) noRow (rowsOf (keyPlan t cells) c) (r * t .letters) (o′ .targets) (o′ .priorities)
+  pub key-rest : Beyond c (o .keys) (o′ .keys)
+  pub target-rest : Beyond (c * t .letters) (o .targets) (o′ .targets)
+  pub priority-rest : Beyond (c * t .letters) (o .priorities) (o′ .priorities)
+  pub new-keys : r ≤ c → Beyond r (o .keys) (o′ .keys)
+  pub new-targets : r ≤ c → Beyond (r * t .letters) (o .targets) (o′ .targets)
+  pub new-priorities : r ≤ c → Beyond (r * t .letters) (o .priorities) (o′ .priorities)
 
 -- ---- the promise
 abbrev pub exploredOf : Task → List ℕ → ℕ → ℕ → ℕ → ℕ → Explored
 exploredOf t cells c k a b =
     pick (isUnfit t cells c k a b) Unfit (pick (isFull (keyPlan t cells) c) Full (Rows (length (rowsOf (keyPlan t cells) c))))
 
-abbrev pub Leaves : Explored → Task → List ℕ → ℕ → List ℕ → List ℕ → List ℕ → List ℕ → List ℕ → List ℕ → Type 0
-Leaves (Rows n) t cells c keys keys′ ts ts′ ps ps′ =
+abbrev pub Leaves : Explored → Task → List ℕ → ℕ → Lent → Lent → Type 0
+Leaves (Rows n) t cells c o o′ =
     let g = keyPlan t cells in
     let rs = rowsOf g c in
-    (keys′ ≡ over rs keys) × (ts′ ≡ over (allTargets g noRow rs) ts) × (ps′ ≡ over (allPriorities g rs) ps)
-Leaves Full t cells c keys keys′ ts ts′ ps ps′ = Beyond c keys keys′ × Beyond (c * t .letters) ts ts′ × Beyond (c * t .letters) ps ps′
-Leaves Unfit t cells c keys keys′ ts ts′ ps ps′ = (keys′ ≡ keys) × (ts′ ≡ ts) × (ps′ ≡ ps)
+    (o′ .keys ≡ over rs (o .keys)) × (o′ .targets ≡ over (allTargets g noRow rs) (o .targets)) × (o′ .priorities ≡ over (allPriorities g rs) (o .priorities))
+Leaves Full t cells c o o′ = Beyond c (o .keys) (o′ .keys) × Beyond (c * t .letters) (o .targets) (o′ .targets) × Beyond (c * t .letters) (o .priorities) (o′ .priorities)
+Leaves Unfit t cells c o o′ = (o′ .keys ≡ o .keys) × (o′ .targets ≡ o .targets) × (o′ .priorities ≡ o .priorities)
 
-pub record ExploreSays (t : Task) (cells : List ℕ) (c : ℕ) (keys keys′ ts ts′ ps ps′ : List ℕ) (x : Explored) : Type 0 where
-  pub answer : x ≡ exploredOf t cells c (length keys) (length ts) (length ps)
-  pub arrays : Leaves x t cells c keys keys′ ts ts′ ps ps′
+pub record ExploreSays (t : Task) (cells : List ℕ) (c : ℕ) (o o′ : Lent) (x : Explored) : Type 0 where
+  pub answer : x ≡ exploredOf t cells c (length (o .keys)) (length (o .targets)) (length (o .priorities))
+  pub arrays : Leaves x t cells c o o′

@@ -11,7 +11,7 @@ mod rows;
 use rules::limit::MAX_ROWS;
 ghost use mathlib.Core.Path.{_≡_};
 ghost use Rattle.rules.specs.Says.{areShort};
-ghost use Rattle.explore.specs.Exploring.{ExploreSays};
+ghost use Rattle.explore.specs.Exploring.{ExploreSays, lent};
 
 // What marks do to a memory.
 pub enum Rule {
@@ -61,7 +61,7 @@ pub fn find_rows(
     targets: &mut [u16],
     priorities: &mut [u8],
 ) -> Explored
-    ensures { λ r. ⌜ ExploreSays task (now (cells .entry)) capacity (now (keys .entry)) (now (keys .exit)) (now (targets .entry)) (now (targets .exit)) (now (priorities .entry)) (now (priorities .exit)) r ⌝ }
+    ensures { λ r. ⌜ ExploreSays task (now (cells .entry)) capacity (lent (now (keys .entry)) (now (targets .entry)) (now (priorities .entry))) (lent (now (keys .exit)) (now (targets .exit)) (now (priorities .exit))) r ⌝ }
 {
     let unfit = check::is_unfit(
         task,

@@ -20,7 +20,7 @@ ghost use lib.ListN.{length};
 ghost use Rattle.explore.specs.Cells.{span, crossingKind, stepIn};
 ghost use Rattle.explore.specs.Filing.{Filed};
 ghost use Rattle.explore.specs.Index.{Linked};
-ghost use Rattle.explore.specs.Exploring.{LinkRoom, StepRead, Closed, Known, RowSays, Room, Stage, RowsSay, ExploresAll};
+ghost use Rattle.explore.specs.Exploring.{LinkRoom, StepRead, Closed, Known, RowSays, Room, Stage, RowsSay, ExploresAll, lent};
 
 // Up to how many rows a small index serves, and its slots. While few rows are known, clearing the large one would take longer than reading them.
 const FEW_LIMIT: usize = 128;
@@ -75,7 +75,7 @@ fn read_cell(
     priorities: &mut [u8],
 ) -> usize
     requires { ⌜ Filed capacity n (now keys) × Linked n (now keys) (now heads) (now links) × (n < capacity → n < length (now links)) × (effect < 256 * span) × (p < length (now targets)) × (p < length (now priorities)) ⌝ }
-    ensures { λ r. ⌜ StepRead (stepIn code effect) capacity n p (now (keys .entry)) (now (keys .exit)) (now (targets .entry)) (now (targets .exit)) (now (priorities .entry)) (now (priorities .exit)) r × (r ≤ capacity → Linked r (now (keys .exit)) (now (heads .exit)) (now (links .exit))) ⌝ }
+    ensures { λ r. ⌜ StepRead (stepIn code effect) capacity n p (lent (now (keys .entry)) (now (targets .entry)) (now (priorities .entry))) (lent (now (keys .exit)) (now (targets .exit)) (now (priorities .exit))) r × (r ≤ capacity → Linked r (now (keys .exit)) (now (heads .exit)) (now (links .exit))) ⌝ }
 {
     if code < CROSSING {
         targets[p] = NO_ROW;
@@ -101,8 +101,8 @@ fn read_row(
     targets: &mut [u16],
     priorities: &mut [u8],
 ) -> usize
-    requires { ⌜ Closed task (now cells) × (i < n) × Known task (now cells) capacity n (i * task .letters) (now keys) (now targets) (now priorities) × Linked n (now keys) (now heads) (now links) × LinkRoom capacity (n + task .letters) (now links) ⌝ }
-    ensures { λ r. ⌜ RowSays task (now (cells .entry)) capacity n i (now (keys .entry)) (now (keys .exit)) (now (targets .entry)) (now (targets .exit)) (now (priorities .entry)) (now (priorities .exit)) r × (r ≤ capacity → Linked r (now (keys .exit)) (now (heads .exit)) (now (links .exit))) ⌝ }
+    requires { ⌜ Closed task (now cells) × (i < n) × Known task (now cells) capacity n (i * task .letters) (lent (now keys) (now targets) (now priorities)) × Linked n (now keys) (now heads) (now links) × LinkRoom capacity (n + task .letters) (now links) ⌝ }
+    ensures { λ r. ⌜ RowSays task (now (cells .entry)) capacity n i (lent (now (keys .entry)) (now (targets .entry)) (now (priorities .entry))) (lent (now (keys .exit)) (now (targets .exit)) (now (priorities .exit))) r × (r ≤ capacity → Linked r (now (keys .exit)) (now (heads .exit)) (now (links .exit))) ⌝ }
 {
     let rule = task.rule;
     let m = task.letters;
@@ -145,8 +145,8 @@ fn read_rows(
     targets: &mut [u16],
     priorities: &mut [u8],
 ) -> Progress
-    requires { ⌜ Closed task (now cells) × Stage task (now cells) capacity row n (now keys) (now targets) (now priorities) × Linked n (now keys) (now heads) (now links) × LinkRoom capacity (limit + task .letters) (now links) ⌝ }
-    ensures { λ r. ⌜ RowsSay task (now (cells .entry)) n limit capacity (r .row) (now (keys .entry)) (now (keys .exit)) (now (targets .entry)) (now (targets .exit)) (now (priorities .entry)) (now (priorities .exit)) (r .known) ⌝ }
+    requires { ⌜ Closed task (now cells) × Stage task (now cells) capacity row n (lent (now keys) (now targets) (now priorities)) × Linked n (now keys) (now heads) (now links) × LinkRoom capacity (limit + task .letters) (now links) ⌝ }
+    ensures { λ r. ⌜ RowsSay task (now (cells .entry)) n limit capacity (r .row) (lent (now (keys .entry)) (now (targets .entry)) (now (priorities .entry))) (lent (now (keys .exit)) (now (targets .exit)) (now (priorities .exit))) (r .known) ⌝ }
 {
     let mut known = n;
     let mut i = row;
@@ -181,8 +181,8 @@ fn read_many(
     targets: &mut [u16],
     priorities: &mut [u8],
 ) -> usize
-    requires { ⌜ Closed task (now cells) × Stage task (now cells) capacity row n (now keys) (now targets) (now priorities) ⌝ }
-    ensures { λ r. ⌜ ExploresAll task (now (cells .entry)) capacity (now (keys .entry)) (now (keys .exit)) (now (targets .entry)) (now (targets .exit)) (now (priorities .entry)) (now (priorities .exit)) r × (n ≤ r) ⌝ }
+    requires { ⌜ Closed task (now cells) × Stage task (now cells) capacity row n (lent (now keys) (now targets) (now priorities)) ⌝ }
+    ensures { λ r. ⌜ ExploresAll task (now (cells .entry)) capacity (lent (now (keys .entry)) (now (targets .entry)) (now (priorities .entry))) (lent (now (keys .exit)) (now (targets .exit)) (now (priorities .exit))) r × (n ≤ r) ⌝ }
 {
     let mut heads = [0; SLOTS];
     let mut links = [0; MAX_ROWS];
@@ -214,7 +214,7 @@ pub(crate) fn explore(
     priorities: &mut [u8],
 ) -> usize
     requires { ⌜ Closed task (now cells) × Room (task .letters) capacity (now targets) (now priorities) (now keys) ⌝ }
-    ensures { λ r. ⌜ ExploresAll task (now (cells .entry)) capacity (now (keys .entry)) (now (keys .exit)) (now (targets .entry)) (now (targets .exit)) (now (priorities .entry)) (now (priorities .exit)) r ⌝ }
+    ensures { λ r. ⌜ ExploresAll task (now (cells .entry)) capacity (lent (now (keys .entry)) (now (targets .entry)) (now (priorities .entry))) (lent (now (keys .exit)) (now (targets .exit)) (now (priorities .exit))) r ⌝ }
 {
     let mut heads = [0; FEW_SLOTS];
     let mut links = [0; FEW_ROWS];

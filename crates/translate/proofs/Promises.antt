@@ -36,7 +36,7 @@ use Rattle.explore.specs.declared.Explored.{Explored}
 use Rattle.explore.specs.declared.Explored.the-variants.{Rows, Full}
 use Rattle.explore.specs.Cells.{sourceIn}
 use Rattle.explore.specs.Effects.{keyPlan}
-use Rattle.explore.specs.Exploring.{ExploreSays, Leaves}
+use Rattle.explore.specs.Exploring.{ExploreSays, Leaves, lent}
 use Rattle.translate.specs.Keys.{keyRow, IsKey}
 use Rattle.translate.specs.Cells.{entryKey, taskOf, TableCodes}
 use Rattle.translate.specs.Rows.{RowsLeft, refusalOf, rowsKept}
@@ -94,11 +94,11 @@ module _ (bs : List ℕ) (letters c : ℕ) (ts ps ss es : List ℕ) (taken : Tak
   rows = rowsOf g c
 
   -- there is room, and the rows have been looked for
-  module _ (enough : TakenArrays c letters (length ts) (length ps) (length ss) (length es)) {cells : List ℕ} {start : ℕ} (same-start : start ≡ entryKey t (t .start)) (codes : TableCodes t cells) {es₁ ts₁ ps₁ : List ℕ} {x : Explored} (explored : ExploreSays (record { rule = Pairs; letters = letters; start = start }) cells c es es₁ ts ts₁ ps ps₁ x) where
+  module _ (enough : TakenArrays c letters (length ts) (length ps) (length ss) (length es)) {cells : List ℕ} {start : ℕ} (same-start : start ≡ entryKey t (t .start)) (codes : TableCodes t cells) {es₁ ts₁ ps₁ : List ℕ} {x : Explored} (explored : ExploreSays (record { rule = Pairs; letters = letters; start = start }) cells c (lent es ts ps) (lent es₁ ts₁ ps₁) x) where
     room : TakenArrays c m (length ts) (length ps) (length ss) (length es)
     room = rw same-letters at enough
 
-    says : ExploreSays (taskOf t) cells c es es₁ ts ts₁ ps ps₁ x
+    says : ExploreSays (taskOf t) cells c (lent es ts ps) (lent es₁ ts₁ ps₁) x
     says = rw (same-letters, same-start) at explored
 
     abbrev k : Plan ℕ
@@ -132,7 +132,7 @@ module _ (bs : List ℕ) (letters c : ℕ) (ts ps ss es : List ℕ) (taken : Tak
 
     -- what is kept of the keys
     module _ (done : isFull g c ≡ false) (z : x ≡ Rows (length keys)) where
-      arrays : Leaves (Rows (length keys)) (taskOf t) cells c es es₁ ts ts₁ ps ps₁
+      arrays : Leaves (Rows (length keys)) (taskOf t) cells c (lent es ts ps) (lent es₁ ts₁ ps₁)
       arrays = rw z at (says .arrays)
 
       few : length keys ≤ c

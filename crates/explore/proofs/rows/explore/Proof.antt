@@ -9,7 +9,7 @@ use lib.ListN.{length-set}
 use borrow.Author.Tests.{eqb-true, ltb-true, ltb-false}
 use Rattle.rules.proofs.Bools.{or-cases, or-none}
 use Rattle.rules.proofs.Filling.{zeros-at}
-use Rattle.explore.specs.Exploring.{RowsPart}
+use Rattle.explore.specs.Exploring.{RowsPart, lent}
 use Rattle.explore.proofs.Rounds.{stage-begun, part-after}
 use Rattle.explore.proofs.Answers.{rows-done, many-after}
 use Rattle.explore.proofs.rows.explore.Statement.{statement}
@@ -31,7 +31,7 @@ module _ (c : tie.After-read-rows) where
   s = c .before .before .before .before .before .before .before .before .before .before .before .before .before .before .before .before
 
   part : let a = s .args in let l = c .read-rows .last .1 .1 .1 .1 .1 .1 in let r = c .read-rows .result in
-      RowsPart (a .task) (a .cells .now) (a .capacity) (r .row) (a .keys .now) (l .0) (a .targets .now) (l .1 .1 .1 .0) (a .priorities .now) (l .1 .1 .1 .1 .0) (r .known)
+      RowsPart (a .task) (a .cells .now) (a .capacity) (r .row) (lent (a .keys .now) (a .targets .now) (a .priorities .now)) (lent (l .0) (l .1 .1 .1 .0) (l .1 .1 .1 .1 .0)) (r .known)
   part =
       let y = c .read-rows .ensures in
       part-after (s .args .task) (s .args .cells .now) _ _ _ _ _ _ _ _ _ _ (s .pre .1 .some-rows) (y .longer) (y .part)

@@ -12,6 +12,7 @@ use Rattle.rules.proofs.Arrays.{row-ends}
 use Rattle.rules.proofs.Bools.{and-parts}
 use Rattle.explore.specs.Index.{Linked}
 use Rattle.explore.specs.Cells.{sourceIn}
+use Rattle.explore.specs.Exploring.{lent}
 use Rattle.explore.proofs.Steps.{row-fits, step-here}
 use Rattle.explore.proofs.Rounds.{RowPart, row-begun, row-next, row-done}
 use Rattle.explore.proofs.rows.read_row.Statement.{statement}
@@ -19,7 +20,7 @@ use Rattle.explore.proofs.rows.read_row.Tie as tie
 
 abbrev Inv-loop : tie.InvT-loop
 Inv-loop task cells i n capacity keys₀ heads₀ links₀ targets₀ priorities₀ m key first effects stride known₀ a₀ keys heads links targets priorities known a =
-    RowPart task cells capacity n i a keys₀ keys targets₀ targets priorities₀ priorities known × (known ≤ capacity → Linked known keys heads links)
+    RowPart task cells capacity n i a (lent keys₀ targets₀ priorities₀) (lent keys targets priorities) known × (known ≤ capacity → Linked known keys heads links)
     × (length heads ≡ length heads₀) × (length links ≡ length links₀)
 
 abbrev μ-loop : tie.MeasureT-loop

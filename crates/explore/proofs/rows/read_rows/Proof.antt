@@ -8,14 +8,14 @@ use lib.Dec.{ltb, leb}
 use lib.ListN.{length}
 use Rattle.rules.proofs.Bools.{clash, and-both, and-parts}
 use Rattle.explore.specs.Index.{Linked}
-use Rattle.explore.specs.Exploring.{RowsPart}
+use Rattle.explore.specs.Exploring.{RowsPart, lent}
 use Rattle.explore.proofs.Rounds.{part-begun, rows-next}
 use Rattle.explore.proofs.rows.read_rows.Statement.{statement}
 use Rattle.explore.proofs.rows.read_rows.Tie as tie
 
 abbrev Inv-loop : tie.InvT-loop
 Inv-loop task cells row n limit capacity keys₀ heads₀ links₀ targets₀ priorities₀ known₀ i₀ keys heads links targets priorities known i =
-    RowsPart task cells capacity i keys₀ keys targets₀ targets priorities₀ priorities known × (known ≤ capacity → Linked known keys heads links)
+    RowsPart task cells capacity i (lent keys₀ targets₀ priorities₀) (lent keys targets priorities) known × (known ≤ capacity → Linked known keys heads links)
     × (n ≤ known) × (length heads ≡ length heads₀) × (length links ≡ length links₀)
 
 abbrev μ-loop : tie.MeasureT-loop

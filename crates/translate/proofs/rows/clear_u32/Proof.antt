@@ -16,8 +16,7 @@ abbrev μ-loop : tie.MeasureT-loop
 loop-again : tie.Need-loop-again Inv-loop μ-loop
 loop-again c =
     let i = c .before .loop in
-    let f = i .inv .2 in
-    (omega arith, omega arith, cleared-more (c .before .before .args .from) (i .i) (c .before .before .args .array .now) (i .array) (i .inv .0) (omega (arith, c .before .before .pre .1)) f)
+    (omega arith, omega arith, cleared-more (c .before .before .args .from) (i .i) (c .before .before .args .array .now) (i .array) (i .inv .0) (omega (arith, c .before .before .pre .1)) (i .inv .2))
 
 returns : tie.Need-returns Inv-loop μ-loop
 returns c = let i = c .before .loop in rw (le-antisymm (i .inv .1) (c .loop-test .left)) at (i .inv .2)
