@@ -9,7 +9,7 @@ use libc::STDOUT_FILENO;
 use tables::letters_of;
 use translate::translate_table;
 ghost use mathlib.Core.Path.{_≡_};
-ghost use Rattle.rules.specs.Says.{RabinSays, ParitySays, TranslateSays};
+ghost use Rattle.rules.specs.Says.{RabinSays, ParitySays, TranslateSays, rowArrays};
 ghost use Rattle.rules.specs.Tables.{tableOf};
 ghost use Rattle.judge.specs.Judgements.{answerOf};
 
@@ -37,7 +37,7 @@ fn judge_both(
     sources: &mut [u8],
     records: &mut [u32],
 ) -> Verdicts
-    ensures translation { λ r. ⌜ TranslateSays (now (table .entry)) capacity (now (targets .entry)) (now (targets .exit)) (now (priorities .entry)) (now (priorities .exit)) (now (sources .entry)) (now (sources .exit)) (now (records .entry)) (now (records .exit)) (r .number) (r .rows) ⌝ }
+    ensures translation { λ r. ⌜ TranslateSays (now (table .entry)) capacity (rowArrays (now (targets .entry)) (now (priorities .entry)) (now (sources .entry)) (now (records .entry))) (rowArrays (now (targets .exit)) (now (priorities .exit)) (now (sources .exit)) (now (records .exit))) (r .number) (r .rows) ⌝ }
     ensures rabin { λ r. ⌜ RabinSays (now (table .entry)) (now (lead .entry)) (now (looped .entry)) (answerOf (r .rabin)) ⌝ }
     ensures parity { λ r. ⌜ ParitySays (r .rows) (tableOf (now (table .entry)) .letters) (now (targets .exit)) (now (priorities .exit)) (now (lead .entry)) (now (looped .entry)) (answerOf (r .parity)) ⌝ }
     ensures agree { λ r. ⌜ (r .number ≡ 0 → r .parity ≡ r .rabin) ⌝ }

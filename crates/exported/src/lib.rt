@@ -14,7 +14,7 @@ use tables::letters_of;
 use translate::Translation;
 use translate::translate_table;
 ghost use mathlib.Core.Path.{_≡_};
-ghost use Rattle.rules.specs.Says.{CheckSays, ComponentsSay, TranslateSays, TranslationAgrees, RabinSays, ParitySays};
+ghost use Rattle.rules.specs.Says.{CheckSays, ComponentsSay, TranslateSays, TranslationAgrees, RabinSays, ParitySays, rowArrays};
 ghost use Rattle.rules.specs.Listings.{ListingSays};
 ghost use Rattle.rules.specs.Tables.{tableOf};
 ghost use Rattle.components.specs.Calls.{ComponentsFound, ReachFound, PathFound};
@@ -114,7 +114,7 @@ pub extern "C" fn duckbullion_translate_table(
     sources: &mut [u8],
     records: &mut [u32],
 ) -> Translation
-    ensures says { λ r. ⌜ TranslateSays (now (table .entry)) capacity (now (targets .entry)) (now (targets .exit)) (now (priorities .entry)) (now (priorities .exit)) (now (sources .entry)) (now (sources .exit)) (now (records .entry)) (now (records .exit)) (r .number) (r .rows) ⌝ }
+    ensures says { λ r. ⌜ TranslateSays (now (table .entry)) capacity (rowArrays (now (targets .entry)) (now (priorities .entry)) (now (sources .entry)) (now (records .entry))) (rowArrays (now (targets .exit)) (now (priorities .exit)) (now (sources .exit)) (now (records .exit))) (r .number) (r .rows) ⌝ }
     ensures agrees { λ r. ⌜ TranslationAgrees (now (table .entry)) (now (targets .exit)) (now (priorities .exit)) (now (sources .exit)) (r .number) (r .rows) ⌝ }
 {
     translate_table(table, capacity, targets, priorities, sources, records)
@@ -131,7 +131,7 @@ pub extern "C" fn duckbullion_list_table(
     records: &mut [u32],
     out: &mut [u8],
 ) -> usize
-    ensures { λ r. ⌜ ListingSays (now (table .entry)) capacity (now (targets .entry)) (now (targets .exit)) (now (priorities .entry)) (now (priorities .exit)) (now (sources .entry)) (now (sources .exit)) (now (records .entry)) (now (records .exit)) (now (out .entry)) (now (out .exit)) r ⌝ }
+    ensures { λ r. ⌜ ListingSays (now (table .entry)) capacity (rowArrays (now (targets .entry)) (now (priorities .entry)) (now (sources .entry)) (now (records .entry))) (rowArrays (now (targets .exit)) (now (priorities .exit)) (now (sources .exit)) (now (records .exit))) (now (out .entry)) (now (out .exit)) r ⌝ }
 {
     list_table(table, capacity, targets, priorities, sources, records, out)
 }

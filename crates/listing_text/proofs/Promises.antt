@@ -25,7 +25,7 @@ use Rattle.rules.specs.Records.{decimal}
 use Rattle.rules.specs.Rows.{targetNumber}
 use Rattle.rules.specs.Tables.{tableOf, tableFault, tablePlan}
 use Rattle.rules.specs.Claims.{tableRows, targets, priorities, sourceStates, recordNumbers, exceeds}
-use Rattle.rules.specs.Says.{areShort, arraysFault, translateFault, afterwards, TranslateSays}
+use Rattle.rules.specs.Says.{areShort, arraysFault, translateFault, afterwards, TranslateSays, rowArrays}
 use Rattle.rules.specs.Listings.{lineAt, rowLines, linesAt, lines, head, refused, tableListing, listing, ListingSays}
 use Rattle.rules.proofs.Bools.{or-none}
 use Rattle.rules.proofs.Arrays.{cells-length, row-ends}
@@ -72,10 +72,10 @@ lines-same n m ts ts′ ps ps′ ss ss′ rs rs′ ft fp fs fr =
     letters i l a h = let b : cell m i a < n * m = omega (arith, row-ends n m i l) in rw (ft (cell m i a) b, fp (cell m i a) b)
 
 -- ---- success
-pub success : {bs : List ℕ} {c : ℕ} {ts ts′ ps ps′ ss ss′ es es′ : List ℕ} {number rows : ℕ} → number ≡ 0 → TranslateSays bs c ts ts′ ps ps′ ss ss′ es es′ number rows → TranslateSays bs c ts ts′ ps ps′ ss ss′ es es′ 0 rows
+pub success : {bs : List ℕ} {c : ℕ} {ts ts′ ps ps′ ss ss′ es es′ : List ℕ} {number rows : ℕ} → number ≡ 0 → TranslateSays bs c (rowArrays ts ps ss es) (rowArrays ts′ ps′ ss′ es′) number rows → TranslateSays bs c (rowArrays ts ps ss es) (rowArrays ts′ ps′ ss′ es′) 0 rows
 success z says = rw z at says
 
-module _ {bs : List ℕ} {c : ℕ} {ts ts′ ps ps′ ss ss′ es es′ : List ℕ} {rows : ℕ} (says : TranslateSays bs c ts ts′ ps ps′ ss ss′ es es′ 0 rows) where
+module _ {bs : List ℕ} {c : ℕ} {ts ts′ ps ps′ ss ss′ es es′ : List ℕ} {rows : ℕ} (says : TranslateSays bs c (rowArrays ts ps ss es) (rowArrays ts′ ps′ ss′ es′) 0 rows) where
   cells : length (tableRows bs c) * tableOf bs .letters ≡ rows * tableOf bs .letters
   cells = rw (says .count)
 
@@ -121,12 +121,12 @@ module _ {bs : List ℕ} {c : ℕ} {ts ts′ ps ps′ ss ss′ es es′ : List �
   listing-done = rw (← says .refusal, ← says .count, as-found)
 
 -- ---- both outcomes
-module _ {bs : List ℕ} {c : ℕ} {ts ts′ ps ps′ ss ss′ es es′ : List ℕ} {number rows : ℕ} (says : TranslateSays bs c ts ts′ ps ps′ ss ss′ es es′ number rows) where
+module _ {bs : List ℕ} {c : ℕ} {ts ts′ ps ps′ ss ss′ es es′ : List ℕ} {number rows : ℕ} (says : TranslateSays bs c (rowArrays ts ps ss es) (rowArrays ts′ ps′ ss′ es′) number rows) where
   pub listing-refused : (number ≡ 0 → ⊥) → listing bs c (length ts) (length ps) (length ss) (length es) ≡ refused number
   unfolding listing
   listing-refused ne = rw (← says .refusal, ne-eqb number 0 ne)
 
-  pub listing-says : {o o′ t : List ℕ} {r : ℕ} → listing bs c (length ts) (length ps) (length ss) (length es) ≡ t → Wrote 0 t o o′ r → ListingSays bs c ts ts′ ps ps′ ss ss′ es es′ o o′ r
+  pub listing-says : {o o′ t : List ℕ} {r : ℕ} → listing bs c (length ts) (length ps) (length ss) (length es) ≡ t → Wrote 0 t o o′ r → ListingSays bs c (rowArrays ts ps ss es) (rowArrays ts′ ps′ ss′ es′) o o′ r
   listing-says is w =
       record {
         arrays = rw (says .refusal) at (rw (says .count) at says);

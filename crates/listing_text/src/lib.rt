@@ -8,6 +8,7 @@ use translate::translate_table;
 mod lines;
 mod text;
 
+ghost use Rattle.rules.specs.Says.{rowArrays};
 ghost use Rattle.rules.specs.Listings.{ListingSays};
 
 // The listing of a table's translation, in `out` as far as it fits; the result is the length of the whole text. The parity table is left
@@ -21,7 +22,7 @@ pub fn list_table(
     records: &mut [u32],
     out: &mut [u8],
 ) -> usize
-    ensures { λ r. ⌜ ListingSays (now (table .entry)) capacity (now (targets .entry)) (now (targets .exit)) (now (priorities .entry)) (now (priorities .exit)) (now (sources .entry)) (now (sources .exit)) (now (records .entry)) (now (records .exit)) (now (out .entry)) (now (out .exit)) r ⌝ }
+    ensures { λ r. ⌜ ListingSays (now (table .entry)) capacity (rowArrays (now (targets .entry)) (now (priorities .entry)) (now (sources .entry)) (now (records .entry))) (rowArrays (now (targets .exit)) (now (priorities .exit)) (now (sources .exit)) (now (records .exit))) (now (out .entry)) (now (out .exit)) r ⌝ }
 {
     let translation = translate_table(table, capacity, targets, priorities, sources, records);
     let number = translation.number;

@@ -14,7 +14,7 @@ use Rattle.rules.specs.Refusals as Refusal
 use Rattle.rules.specs.Tables.{tableOf, tableFault, systemOf, recordKeeper, IsOrdering}
 use Rattle.rules.specs.Judges.{satisfies}
 use Rattle.rules.specs.Claims.{tableRows, targets, priorities, sourceStates, exceeds, Agrees, Demands}
-use Rattle.rules.specs.Says.{afterwards, arraysFault, translateFault, TranslateSays, TranslationAgrees}
+use Rattle.rules.specs.Says.{afterwards, arraysFault, translateFault, TranslateSays, TranslationAgrees, rowArrays}
 use Rattle.rules.proofs.Bools.{or-none, and-parts}
 use Rattle.rules.proofs.Refusals.{first-none, first-zero, when-none, taken-table}
 use Rattle.rules.proofs.Demand3.{demand-3}
@@ -51,7 +51,7 @@ after-success number k xs o o′ z e =
     sym (append-assoc xs (replicate (k - length xs) 0) (drop (length (xs ++ replicate (k - length xs) 0)) o)) ∙ sym (rw z at e)
 
 pub says-agrees : (bs : List ℕ) (c : ℕ) (ts ts′ ps ps′ ss ss′ es es′ : List ℕ) (number count : ℕ)
-    → TranslateSays bs c ts ts′ ps ps′ ss ss′ es es′ number count → TranslationAgrees bs ts′ ps′ ss′ number count
+    → TranslateSays bs c (rowArrays ts ps ss es) (rowArrays ts′ ps′ ss′ es′) number count → TranslationAgrees bs ts′ ps′ ss′ number count
 unfolding translateFault
 says-agrees bs c ts ts′ ps ps′ ss ss′ es es′ number count says z =
     let t = tableOf bs in

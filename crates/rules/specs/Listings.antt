@@ -12,7 +12,7 @@
 --     tableListing bs c            the head and the lines of the table that the bytes say, translated with the capacity c
 --     listing bs c a b d e         the whole text, where the four lent arrays have the lengths a, b, d and e
 --     rowsListed bs c a b d e      the rows listed, 0 on a refusal
---     ListingSays bs c ts ts′ .. o o′ r     listing into o: what the translator leaves in its four arrays, the text in o as far as it fits, and r,
+--     ListingSays bs c (rowArrays ts .. o′ listing) (rowArrays ts′ o r into) o: what the translator leaves in its four arrays, the text in o as far as it fits, and r,
 --                                  the length of the whole text
 use mathlib.Core.Path.{_≡_}
 use mathlib.Core.Bool.{Bool}
@@ -25,7 +25,7 @@ use Rattle.rules.specs.Limits.{noRow}
 use Rattle.rules.specs.Systems.{cell}
 use Rattle.rules.specs.Tables.{tableOf}
 use Rattle.rules.specs.Claims.{tableRows, targets, priorities, sourceStates, recordNumbers}
-use Rattle.rules.specs.Says.{translateFault, TranslateSays}
+use Rattle.rules.specs.Says.{translateFault, RowArrays, TranslateSays}
 use Rattle.rules.specs.Texts.{blank, lineFeed, dash, numeral, each, put}
 
 -- fields
@@ -71,7 +71,7 @@ listing bs c a b d e = pick (eqb (translateFault bs c a b d e) 0) (tableListing 
 abbrev pub rowsListed : List ℕ → ℕ → ℕ → ℕ → ℕ → ℕ → ℕ
 rowsListed bs c a b d e = pick (eqb (translateFault bs c a b d e) 0) (length (tableRows bs c)) 0
 
-pub record ListingSays (bs : List ℕ) (c : ℕ) (ts ts′ ps ps′ ss ss′ es es′ o o′ : List ℕ) (r : ℕ) : Type 0 where
-  pub arrays : TranslateSays bs c ts ts′ ps ps′ ss ss′ es es′ (translateFault bs c (length ts) (length ps) (length ss) (length es)) (rowsListed bs c (length ts) (length ps) (length ss) (length es))
-  pub text : o′ ≡ put 0 (listing bs c (length ts) (length ps) (length ss) (length es)) o
-  pub size : r ≡ length (listing bs c (length ts) (length ps) (length ss) (length es))
+pub record ListingSays (bs : List ℕ) (c : ℕ) (x x′ : RowArrays) (o o′ : List ℕ) (r : ℕ) : Type 0 where
+  pub arrays : TranslateSays bs c x x′ (translateFault bs c (length (x .targets)) (length (x .priorities)) (length (x .states)) (length (x .records))) (rowsListed bs c (length (x .targets)) (length (x .priorities)) (length (x .states)) (length (x .records)))
+  pub text : o′ ≡ put 0 (listing bs c (length (x .targets)) (length (x .priorities)) (length (x .states)) (length (x .records))) o
+  pub size : r ≡ length (listing bs c (length (x .targets)) (length (x .priorities)) (length (x .states)) (length (x .records)))

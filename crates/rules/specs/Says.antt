@@ -11,7 +11,7 @@
 --     padded n xs o                           o with xs and zeros up to n at its front
 --     afterwards f n xs o                     what an array of n places for c rows holds after the refusal f: on success xs and zeros, on
 --                                             8 zeros, else what it held
---     TranslateSays bs c ts ts′ .. number rows    translating: the targets ts, priorities ps, source states ss and record numbers es
+--     TranslateSays bs c (rowArrays ts .. rows the) (rowArrays ts′ number translating: targets) ts, priorities ps, source states ss and record numbers es
 --     TranslationAgrees bs ts′ ps′ ss′ number rows    demand 3 of the arrays as the translator leaves them, with whatever stands behind
 --     RabinSays, ParitySays                   judging a looped word
 --     RestSays lead l i part                  the rest of a piece as that very part of it
@@ -63,13 +63,22 @@ padded n xs o = over (xs ++ replicate (n - length xs) 0) o
 abbrev pub afterwards : ℕ → ℕ → List ℕ → List ℕ → List ℕ
 afterwards f n xs o = pick (eqb f 0) (padded n xs o) (pick (eqb f Refusal.full) (padded n [] o) o)
 
-pub record TranslateSays (bs : List ℕ) (c : ℕ) (ts ts′ ps ps′ ss ss′ es es′ : List ℕ) (number rows : ℕ) : Type 0 where
-  pub refusal : number ≡ translateFault bs c (length ts) (length ps) (length ss) (length es)
+pub record RowArrays : Type 0 where
+  pub targets : List ℕ
+  pub priorities : List ℕ
+  pub states : List ℕ
+  pub records : List ℕ
+
+abbrev pub rowArrays : List ℕ → List ℕ → List ℕ → List ℕ → RowArrays
+rowArrays ts ps ss es = record { targets = ts; priorities = ps; states = ss; records = es }
+
+pub record TranslateSays (bs : List ℕ) (c : ℕ) (o o′ : RowArrays) (number rows : ℕ) : Type 0 where
+  pub refusal : number ≡ translateFault bs c (length (o .targets)) (length (o .priorities)) (length (o .states)) (length (o .records))
   pub count : rows ≡ pick (eqb number 0) (length (tableRows bs c)) 0
-  pub target-array : ts′ ≡ afterwards number (c * tableOf bs .letters) (targets bs c) ts
-  pub priority-array : ps′ ≡ afterwards number (c * tableOf bs .letters) (priorities bs c) ps
-  pub state-array : ss′ ≡ afterwards number c (sourceStates bs c) ss
-  pub record-array : es′ ≡ afterwards number c (recordNumbers bs c) es
+  pub target-array : o′ .targets ≡ afterwards number (c * tableOf bs .letters) (targets bs c) (o .targets)
+  pub priority-array : o′ .priorities ≡ afterwards number (c * tableOf bs .letters) (priorities bs c) (o .priorities)
+  pub state-array : o′ .states ≡ afterwards number c (sourceStates bs c) (o .states)
+  pub record-array : o′ .records ≡ afterwards number c (recordNumbers bs c) (o .records)
 
 abbrev pub TranslationAgrees : List ℕ → List ℕ → List ℕ → List ℕ → ℕ → ℕ → Type 0
 TranslationAgrees bs ts′ ps′ ss′ number rows = number ≡ 0 → Agrees bs rows ts′ ps′ ss′

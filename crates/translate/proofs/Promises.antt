@@ -23,7 +23,7 @@ use Rattle.rules.specs.Records.{decimal}
 use Rattle.rules.specs.Rows.{Row, Plan, rowsOf, isFull}
 use Rattle.rules.specs.Tables.{Table, tableOf, tableFault, tablePlan}
 use Rattle.rules.specs.Claims.{targets, priorities, sourceStates, recordNumbers}
-use Rattle.rules.specs.Says.{areShort, translateFault, padded, afterwards, TranslateSays, TranslationAgrees}
+use Rattle.rules.specs.Says.{areShort, translateFault, padded, afterwards, TranslateSays, TranslationAgrees, rowArrays}
 use Rattle.rules.proofs.Bools.{by}
 use Rattle.rules.proofs.Arrays.{getD-any, cells-length, mapped-at}
 use Rattle.rules.proofs.Coding.{all-at, row-coded, rows-coded, rows-good, full-coded, targets-coded, priorities-coded}
@@ -42,7 +42,7 @@ use Rattle.translate.specs.Cells.{entryKey, taskOf, TableCodes}
 use Rattle.translate.specs.Rows.{RowsLeft, refusalOf, rowsKept}
 use Rattle.translate.proofs.Coding.{table-codes, table-fit}
 
-pub translate-refused : (bs : List ℕ) (c : ℕ) (ts ps ss es : List ℕ) (r : ℕ) → r ≡ tableFault bs → (r ≡ 0 → ⊥) → TranslateSays bs c ts ts ps ps ss ss es es r 0
+pub translate-refused : (bs : List ℕ) (c : ℕ) (ts ps ss es : List ℕ) (r : ℕ) → r ≡ tableFault bs → (r ≡ 0 → ⊥) → TranslateSays bs c (rowArrays ts ps ss es) (rowArrays ts ps ss es) r 0
 unfolding translateFault
 translate-refused bs c ts ps ss es zero f g = absurd (g refl)
 translate-refused bs c ts ps ss es (suc r) f g =
@@ -59,7 +59,7 @@ translate-refused bs c ts ps ss es (suc r) f g =
     kept k xs o = rw (eqb·suc-zero r, ne-eqb (suc r) Refusal.full (λ z. omega (arith, fault-below bs)))
 
 pub translate-short : (bs : List ℕ) (c : ℕ) (ts ps ss es : List ℕ) → Taken bs → areShort c (tableOf bs .letters) (length ts) (length ps) (length ss) (length es) ≡ true
-    → TranslateSays bs c ts ts ps ps ss ss es es Refusal.arrays 0
+    → TranslateSays bs c (rowArrays ts ps ss es) (rowArrays ts ps ss es) Refusal.arrays 0
 unfolding translateFault
 translate-short bs c ts ps ss es taken s =
     record { refusal = rw (taken, s); count = refl; target-array = refl; priority-array = refl; state-array = refl; record-array = refl }
@@ -67,11 +67,11 @@ translate-short bs c ts ps ss es taken s =
 -- the table's refusal or 7, before anything is written
 pub translate-nothing : (bs : List ℕ) (c letters : ℕ) (ts ps ss es : List ℕ) (short : Bool) (r : ℕ) → letters ≡ tableOf bs .letters
     → short ≡ areShort c letters (length ts) (length ps) (length ss) (length es) → r ≡ firstOf (tableFault bs) (when short Refusal.arrays) → (r ≡ 0 → ⊥)
-    → TranslateSays bs c ts ts ps ps ss ss es es r 0
+    → TranslateSays bs c (rowArrays ts ps ss es) (rowArrays ts ps ss es) r 0
 translate-nothing bs c letters ts ps ss es short r m s f g =
     by-fault (tableFault bs) refl
   where
-    by-fault : (x : ℕ) → tableFault bs ≡ x → TranslateSays bs c ts ts ps ps ss ss es es r 0
+    by-fault : (x : ℕ) → tableFault bs ≡ x → TranslateSays bs c (rowArrays ts ps ss es) (rowArrays ts ps ss es) r 0
     by-fault (suc x) e = translate-refused bs c ts ps ss es r (f ∙ rw e) g
     by-fault zero e =
         by
@@ -156,7 +156,7 @@ module _ (bs : List ℕ) (letters c : ℕ) (ts ps ss es : List ℕ) (taken : Tak
 
     module _ {ts′ ps′ ss′ es′ : List ℕ} (left : RowsLeft m (rowsKept x) c ts₁ ts′ ps₁ ps′ ss ss′ es₁ es′) where
       abbrev Said : Type 0
-      Said = TranslateSays bs c ts ts′ ps ps′ ss ss′ es es′ (refusalOf x) (rowsKept x)
+      Said = TranslateSays bs c (rowArrays ts ps ss es) (rowArrays ts′ ps′ ss′ es′) (refusalOf x) (rowsKept x)
 
       said-full : isFull g c ≡ true → x ≡ Full → Said
       unfolding translateFault
@@ -202,9 +202,9 @@ module _ (bs : List ℕ) (letters c : ℕ) (ts ps ss es : List ℕ) (taken : Tak
           })
 
     pub translate-explored : {number n : ℕ} {ts′ ps′ ss′ es′ : List ℕ} → number ≡ refusalOf x → n ≡ rowsKept x → RowsLeft letters n c ts₁ ts′ ps₁ ps′ ss ss′ es₁ es′
-        → TranslateSays bs c ts ts′ ps ps′ ss ss′ es es′ number n
+        → TranslateSays bs c (rowArrays ts ps ss es) (rowArrays ts′ ps′ ss′ es′) number n
     translate-explored r k left = let l = rw (k, same-letters) at left in rw (r, k) (by-answer (said-full l) (said-done l))
 
-pub promised : {bs : List ℕ} {c : ℕ} {ts ts′ ps ps′ ss ss′ es es′ : List ℕ} {number rows : ℕ} → TranslateSays bs c ts ts′ ps ps′ ss ss′ es es′ number rows
-    → TranslateSays bs c ts ts′ ps ps′ ss ss′ es es′ number rows × TranslationAgrees bs ts′ ps′ ss′ number rows
+pub promised : {bs : List ℕ} {c : ℕ} {ts ts′ ps ps′ ss ss′ es es′ : List ℕ} {number rows : ℕ} → TranslateSays bs c (rowArrays ts ps ss es) (rowArrays ts′ ps′ ss′ es′) number rows
+    → TranslateSays bs c (rowArrays ts ps ss es) (rowArrays ts′ ps′ ss′ es′) number rows × TranslationAgrees bs ts′ ps′ ss′ number rows
 promised s = (s, says-agrees _ _ _ _ _ _ _ _ _ _ _ _ s)

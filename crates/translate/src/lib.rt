@@ -18,7 +18,7 @@ mod rows;
 
 ghost use mathlib.Core.Path.{_≡_};
 ghost use mathlib.Core.Bool.{true};
-ghost use Rattle.rules.specs.Says.{TranslateSays, TranslationAgrees};
+ghost use Rattle.rules.specs.Says.{TranslateSays, TranslationAgrees, rowArrays};
 ghost use lib.ListN.{length};
 ghost use Rattle.translate.specs.Cells.{fewCells, HasCells};
 ghost use Rattle.translate.specs.Rows.{refusalOf, rowsKept};
@@ -59,7 +59,7 @@ fn translate_in(
     records: &mut [u32],
 ) -> Translation
     requires { ⌜ (few ≡ true → HasCells (now table) fewCells) × HasCells (now table) (length (now cells)) ⌝ }
-    ensures says { λ r. ⌜ TranslateSays (now (table .entry)) capacity (now (targets .entry)) (now (targets .exit)) (now (priorities .entry)) (now (priorities .exit)) (now (sources .entry)) (now (sources .exit)) (now (records .entry)) (now (records .exit)) (r .number) (r .rows) ⌝ }
+    ensures says { λ r. ⌜ TranslateSays (now (table .entry)) capacity (rowArrays (now (targets .entry)) (now (priorities .entry)) (now (sources .entry)) (now (records .entry))) (rowArrays (now (targets .exit)) (now (priorities .exit)) (now (sources .exit)) (now (records .exit))) (r .number) (r .rows) ⌝ }
     ensures agrees { λ r. ⌜ TranslationAgrees (now (table .entry)) (now (targets .exit)) (now (priorities .exit)) (now (sources .exit)) (r .number) (r .rows) ⌝ }
 {
     let m = letters_of(table);
@@ -112,7 +112,7 @@ pub fn translate_table(
     sources: &mut [u8],
     records: &mut [u32],
 ) -> Translation
-    ensures says { λ r. ⌜ TranslateSays (now (table .entry)) capacity (now (targets .entry)) (now (targets .exit)) (now (priorities .entry)) (now (priorities .exit)) (now (sources .entry)) (now (sources .exit)) (now (records .entry)) (now (records .exit)) (r .number) (r .rows) ⌝ }
+    ensures says { λ r. ⌜ TranslateSays (now (table .entry)) capacity (rowArrays (now (targets .entry)) (now (priorities .entry)) (now (sources .entry)) (now (records .entry))) (rowArrays (now (targets .exit)) (now (priorities .exit)) (now (sources .exit)) (now (records .exit))) (r .number) (r .rows) ⌝ }
     ensures agrees { λ r. ⌜ TranslationAgrees (now (table .entry)) (now (targets .exit)) (now (priorities .exit)) (now (sources .exit)) (r .number) (r .rows) ⌝ }
 {
     if table.len() <= FEW_BYTES {

@@ -1,7 +1,7 @@
 -- `listing_text::list_table` meets its contract: the text of either outcome, by the laws of `Promises`.
 use native.Mathlib.Omega.{arith}
 use borrow.Author.Needs.{needs}
-use Rattle.rules.specs.Says.{TranslateSays}
+use Rattle.rules.specs.Says.{TranslateSays, rowArrays}
 use Rattle.listing_text.proofs.Bounds.{lines-reach, refused-reach}
 use Rattle.listing_text.proofs.Promises.{success, taken, shown, listing-done, listing-refused, listing-says}
 use Rattle.listing_text.proofs.list_table.Statement.{statement}
@@ -15,7 +15,7 @@ module _ (c : tie.Else1) where
   abbrev start : tie.Start
   start = found .before .before .before .before .before .before .before .before .before .before .before
 
-  done : TranslateSays (start .args .table .now) (start .args .capacity) (start .args .targets .now) (found .translate-table .last .1 .1 .0) (start .args .priorities .now) (found .translate-table .last .1 .1 .1 .0) (start .args .sources .now) (found .translate-table .last .1 .1 .1 .1 .0) (start .args .records .now) (found .translate-table .last .1 .1 .1 .1 .1 .0) 0 (found .translate-table .result .rows)
+  done : TranslateSays (start .args .table .now) (start .args .capacity) (rowArrays (start .args .targets .now) (start .args .priorities .now) (start .args .sources .now) (start .args .records .now)) (rowArrays (found .translate-table .last .1 .1 .0) (found .translate-table .last .1 .1 .1 .0) (found .translate-table .last .1 .1 .1 .1 .0) (found .translate-table .last .1 .1 .1 .1 .1 .0)) 0 (found .translate-table .result .rows)
   done = success (c .if1 .left) (found .translate-table .ensures .0)
 
 put-refusal-requires : tie.Need-put-refusal-requires
