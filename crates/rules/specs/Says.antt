@@ -12,7 +12,7 @@
 --     afterwards f n xs o                     what an array of n places for c rows holds after the refusal f: on success xs and zeros, on
 --                                             8 zeros, else what it held
 --     TranslateSays bs c (rowArrays ts .. rows the) (rowArrays ts′ number translating: targets) ts, priorities ps, source states ss and record numbers es
---     TranslationAgrees bs ts′ ps′ ss′ number rows    demand 3 of the arrays as the translator leaves them, with whatever stands behind
+--     TranslationAgrees bs ts′ ps′ ss′ number rows    demand 3 of the arrays as the translator leaves them, whatever the entries past the rows are
 --     RabinSays, ParitySays                   judging a looped word
 --     RestSays lead l i part                  the rest of a piece as that very part of it
 use mathlib.Core.Path.{_≡_}
