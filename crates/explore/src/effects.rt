@@ -1,5 +1,4 @@
-// What the marks of a transition do to a memory, worked out for all letters of a row before they are read: once where all of them have the
-// same marks.
+// What marks do to a memory, worked out for all letters of a row before they are read: once where all have the same marks.
 use crate::Rule;
 use crate::codes::SPAN;
 use crate::codes::marks_of;
@@ -11,8 +10,7 @@ ghost use Rattle.explore.specs.declared.Rule.the-variants.{Pairs};
 ghost use Rattle.explore.specs.Cells.{span};
 ghost use Rattle.explore.specs.Effects.{IsEffect, Strides, EffectsTo, EffectsOn};
 
-// The effect by pairs: prohibited ones in the lower byte of the marks, required ones in the upper. It has no branch, and cells side by side
-// become vector code.
+// The effect by pairs, prohibited ones in the lower byte of the marks, required ones in the upper: no branch, so that it becomes vector code.
 fn effect_by_pairs(memory: u32, marks: u32) -> u32
     requires { ⌜ (memory < span) × (marks < 65536) ⌝ }
     ensures { λ r. ⌜ IsEffect Pairs memory marks r ⌝ }

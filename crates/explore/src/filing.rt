@@ -21,7 +21,7 @@ pub(crate) fn settle(
     requires { ⌜ Filed capacity n (now keys) × Linked n (now keys) (now heads) (now links) × (n < capacity → n < length (now links)) ⌝ }
     ensures { λ r. ⌜ Settles capacity key n (now (keys .entry)) (now (keys .exit)) r × (rowsAfter n r ≤ capacity → Linked (rowsAfter n r) (now (keys .exit)) (now (heads .exit)) (now (links .exit))) ⌝ }
 {
-    let found = find_key(key, n, keys, heads, links);
+    let found = find_key(key, keys, heads, links);
     let Found::At(number) = found else {
         if capacity <= n {
             return n;

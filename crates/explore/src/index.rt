@@ -1,6 +1,6 @@
 // The index of keys: a chain of places for each slot, the latest first. Looking a key up costs the same however many there are.
 ghost use mathlib.Core.Path.{_≡_};
-ghost use Prim.Native.Nat.{_<_, _≤_};
+ghost use Prim.Native.Nat.{ℕ, _<_, _≤_};
 ghost use lib.ListN.{length, getD};
 ghost use Rattle.rules.specs.Limits.{maxRows};
 ghost use Rattle.explore.specs.Index.{slotOf, Linked, Finds, KeyIndexed};
@@ -20,10 +20,10 @@ fn slot(key: u32, slots: usize) -> usize
     (slots - 1) & (key as u64 * 2246822507 % 4294967296 / 262144) as usize
 }
 
-// Looks a key up among the first n.
-pub(crate) fn find_key(key: u32, n: usize, keys: &[u32], heads: &[u16], links: &[u16]) -> Found
-    requires { ⌜ Linked n (now keys) (now heads) (now links) × (n ≤ length (now keys)) ⌝ }
-    ensures { λ r. ⌜ Finds n key (now (keys .entry)) r ⌝ }
+// Looks a key up among those that are indexed, however many they are.
+pub(crate) fn find_key(key: u32, keys: &[u32], heads: &[u16], links: &[u16]) -> Found
+    requires { ⌜ ((n : ℕ) × (n ≤ length (now keys)) × Linked n (now keys) (now heads) (now links)) ⌝ }
+    ensures { λ r. ⌜ ((n : ℕ) → Linked n (now (keys .entry)) (now (heads .entry)) (now (links .entry)) → Finds n key (now (keys .entry)) r) ⌝ }
 {
     let mut at = heads[slot(key, heads.len())];
     // the key is at no place of its chain that has been passed

@@ -1,5 +1,4 @@
-// The exploration: rows are read by number, letters rising within each, and each key is filed as it is found. Every cell of the lent
-// arrays is written once, as it is read.
+// The exploration: rows are read by number, letters rising within each; a key is filed as it is found, a cell written as it is read.
 use crate::Task;
 use crate::codes::CROSSING;
 use crate::codes::INSIDE;
@@ -169,8 +168,7 @@ fn read_rows(
     Progress { row: i, known }
 }
 
-// Reads the rows from number `row` on, where n are known, with a large index, and gives how many there are, or that there are more than
-// the capacity.
+// Reads the rows from number `row` on, where n are known, with a large index; gives how many there are, or a number above the capacity.
 fn read_many(
     task: Task,
     cells: &[u32],

@@ -11,11 +11,11 @@ use Rattle.explore.proofs.filing.settle.Tie as tie
 find-key-requires : tie.Need-find-key-requires
 find-key-requires c κs =
     let s = c .before .before .before .before .before .before in
-    (s .pre .1, omega (arith, s .pre .0 .few, s .pre .0 .key-room))
+    (s .args .n, omega (arith, s .pre .0 .few, s .pre .0 .key-room), s .pre .1)
 
 -- the key is absent
 absent : (c : tie.After-enum-told) → let s = c .before .before .before .before .before .before .before .before .before in (i : ℕ) → i < s .args .n → getD (s .args .keys .now) i 0 ≡ s .args .key → ⊥
-absent c = rw (c .enum-told .given .1) at (c .before .before .find-key .ensures)
+absent c = rw (c .enum-told .given .1) at (c .before .before .find-key .ensures _ (c .before .before .before .before .before .before .before .before .before .pre .1))
 
 index-key-requires : tie.Need-index-key-requires
 index-key-requires c κs =
@@ -36,8 +36,8 @@ returns-2 c =
 
 returns-3 : tie.Need-returns-3
 returns-3 c =
-    let f = rw (c .before .found .given .1) at (c .before .before .before .find-key .ensures) in
     let s = c .before .before .before .before .before .before .before .before .before .before in
+    let f = rw (c .before .found .given .1) at (c .before .before .before .find-key .ensures (s .args .n) (s .pre .1)) in
     (settled-found _ _ _ _ (s .pre .0) _ (f .0) (f .1), λ h. rw (rows-old _ _ (f .0)) (s .pre .1))
 
 pub settle-spec : {M : Type 1} → statement M
