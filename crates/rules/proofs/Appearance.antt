@@ -5,7 +5,7 @@
 --     after x o                      what stands behind x in o
 --     after-moved                    behind a pair that is not prohibited a move only drops the prohibited ones
 --     drop-moved                     a tail in which nothing is prohibited stays as it is
---     priority-none, priority-last   document 01's rule: the last pair with either mark decides the priority
+--     priority-none, priority-last, priority-is     the last pair with either mark decides the priority
 --     with-bounds                    one pair more cannot lower the priority found, nor lift it past its own position
 --     scan-*                         what the search for the priority can find, from any position on
 --     even-satisfied, satisfied-even the two halves of the theorem
@@ -21,7 +21,7 @@ use lib.ListN.{length, take, drop, length-append, length-drop, take-append-drop,
 use lib.Seq.{drop-at}
 use borrow.Author.Tests.{eqb-true, eqb-false, eq-eqb, leb-true, leb-false, not-true}
 use Rattle.rules.specs.Basics.{pick, any, isIn, occurs, keep, isEven}
-use Rattle.rules.specs.Records.{Marks, Rearranges, moved, priorityWith, priorityFrom, priority, movedAlong, largestPriority, satisfied}
+use Rattle.rules.specs.Records.{Marks, Rearranges, moved, priorityWith, priorityFrom, priority, movedAlong, largestPriority, satisfied, hasMark, PriorityIs}
 use Rattle.rules.proofs.Bools.{by, clash, or-cases, or-left, or-right, or-none, and-parts, bool-ext}
 use Rattle.rules.proofs.Sets.{any-append, any-find, any-intro, any-none}
 
@@ -128,8 +128,8 @@ even-double p = eq-eqb (2 * p % 2) 0 (omega arith)
 -- ---- the search for the priority: it stands at position p, and best was found before
 module _ (m : Marks) where
   -- the pairs with either mark
-  abbrev pub marked : ℕ → Bool
-  marked i = m .prohibited i || m .required i
+  abbrev marked : ℕ → Bool
+  marked = hasMark m
 
   scan-quiet : (o : List ℕ) (p best : ℕ) → any marked o ≡ false → priorityFrom p m o best ≡ best
   scan-quiet [] p best h = refl
@@ -153,6 +153,13 @@ module _ (m : Marks) where
   pub priority-last : (u : List ℕ) (i : ℕ) (v : List ℕ) → marked i ≡ true → any marked v ≡ false
       → priority m (u ++ (i ∷ v)) ≡ pick (m .prohibited i) (suc (2 * (1 + length u))) (2 * (1 + length u))
   priority-last u i v h q = scan-last u i v 1 1 h q
+
+  pub priority-is : (o : List ℕ) → PriorityIs m o (priority m o)
+  priority-is o =
+      record {
+        none = priority-none o;
+        last = λ u i v e h q. ap (priority m) (sym e) ∙ priority-last u i v h q ∙ by (m .prohibited i) (λ f. rw f (omega arith)) (λ f. rw f);
+      }
 
   with-bounds : (p i best : ℕ) → best < 2 * p → (best ≤ priorityWith p m i best) × (priorityWith p m i best < 2 * suc p)
   with-bounds p i best h =

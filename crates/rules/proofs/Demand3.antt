@@ -19,7 +19,7 @@ use lib.Seq.{take-at}
 use borrow.Author.Tests.{ltb-false, lt-ltb, leb-true, leb-false}
 use Rattle.rules.specs.Basics.{tabulate, largest, isEven}
 use Rattle.rules.specs.Limits.{maxLetters, maxRows, noRow}
-use Rattle.rules.specs.Systems.{System, isInside, Path, here, step}
+use Rattle.rules.specs.Systems.{System, isInside, Path, here, step, Leads}
 use Rattle.rules.specs.Runs.{Taken, taken, passFrom, strayLetter, isClosedWalk, projected}
 use Rattle.rules.specs.Rows.{Step, Plan, RowsAre, Row, row, Keeper, stepOf, planOf, numberOf, rowsOf, isFull, rowAt, Reached, first-row, next-row, targetNumber, allTargets, allPriorities, sources}
 use Rattle.rules.specs.Tables.{targetFault}
@@ -28,7 +28,7 @@ use Rattle.rules.specs.Judges.{paritySystem, priorityAt, parityGood, par
 use Rattle.rules.specs.Constructions.{memoryAfter, largestAlong, Lawful, Faithful}
 use Rattle.rules.proofs.Bools.{by, or-right}
 use Rattle.rules.proofs.Sets.{largest-same}
-use Rattle.rules.proofs.Reach.{path-append, Leads, inside-of-return}
+use Rattle.rules.proofs.Reach.{path-append, inside-of-return}
 use Rattle.rules.proofs.Walks.{closed-path}
 use Rattle.rules.proofs.Agreement.{Projects, path-projects, words-agree}
 use Rattle.rules.proofs.Exploration.{rows-view}

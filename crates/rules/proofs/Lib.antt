@@ -22,6 +22,7 @@ pub mod Demand3
 pub mod RabinTables
 pub mod Numbers
 pub mod Demands
+pub mod Meanings
 pub mod Cards
 pub mod Texts
 pub mod Listings

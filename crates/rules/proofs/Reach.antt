@@ -18,7 +18,7 @@ use native.Mathlib.Omega.{arith}
 use lib.Dec.{eqb, ltb}
 use borrow.Author.Tests.{eqb-true, eqb-false, eq-eqb, ltb-true, lt-ltb}
 use Rattle.rules.specs.Basics.{anyBelow}
-use Rattle.rules.specs.Systems.{System, linked, via, reaches, together, componentOf, isInside, metWithin, Path, here, step}
+use Rattle.rules.specs.Systems.{System, linked, via, reaches, together, componentOf, isInside, metWithin, Path, here, step, Leads}
 use Rattle.rules.proofs.Bools.{by, or-cases, or-left, or-right, and-both, and-parts, bool-ext}
 use Rattle.rules.proofs.Sets.{below-find, below-intro, below-same, least-passes, least-least}
 
@@ -67,10 +67,7 @@ module _ (s : System) where
   path-append here b = b
   path-append (step l t a) b = step l t (path-append a b)
 
-  abbrev pub Leads : ℕ → ℕ → Type 0
-  Leads p q = (w : List ℕ) × Path s p w q
-
-  link-leads : (p q : ℕ) → linked s p q ≡ true → Leads p q
+  link-leads : (p q : ℕ) → linked s p q ≡ true → Leads s p q
   unfolding linked
   link-leads p q h =
       let r = and-parts (ltb q (s .states)) (anyBelow (s .letters) (λ a. eqb (s .go p a) q)) h in
@@ -85,11 +82,11 @@ module _ (s : System) where
       and-both (ltb (s .go p a) (s .states)) (anyBelow (s .letters) (λ b. eqb (s .go p b) (s .go p a))) (lt-ltb (s .go p a) (s .states) t)
       (below-intro (s .letters) (λ b. eqb (s .go p b) (s .go p a)) a l (eq-eqb (s .go p a) (s .go p a) refl))
 
-  reaches-leads : (p q : ℕ) → reaches s p q ≡ true → Leads p q
+  reaches-leads : (p q : ℕ) → reaches s p q ≡ true → Leads s p q
   unfolding reaches
   reaches-leads p q h =
       or-cases (eqb p q) (via (linked s) (s .states) p q) h (λ e. ([], rw (eqb-true p q e) here))
-      (λ v. via-least (linked s) Leads link-leads (λ a x b f g. (f .0 ++ g .0, path-append (f .1) (g .1))) (s .states) p q v)
+      (λ v. via-least (linked s) (Leads s) link-leads (λ a x b f g. (f .0 ++ g .0, path-append (f .1) (g .1))) (s .states) p q v)
 
   pub path-reaches : {p : ℕ} {w : List ℕ} {q : ℕ} → Path s p w q → reaches s p q ≡ true
   unfolding reaches
@@ -100,11 +97,11 @@ module _ (s : System) where
       (λ e. via-link (linked s) (s .states) p q (rw (eqb-true (s .go p a) q e) at (link-of-step p a l t)))
       (λ v. via-join (linked s) (s .states) p (s .go p a) q t (via-link (linked s) (s .states) p (s .go p a) (link-of-step p a l t)) v))
 
-  pub reaches-view : (p q : ℕ) → (reaches s p q ≡ true) ↔ Leads p q
+  pub reaches-view : (p q : ℕ) → (reaches s p q ≡ true) ↔ Leads s p q
   reaches-view p q = (reaches-leads p q, λ l. path-reaches (l .1))
 
   -- components
-  pub together-view : (p q : ℕ) → (together s p q ≡ true) ↔ (Leads p q × Leads q p)
+  pub together-view : (p q : ℕ) → (together s p q ≡ true) ↔ (Leads s p q × Leads s q p)
   unfolding together
   together-view p q =
       (λ h. let r = and-parts (reaches s p q) (reaches s q p) h in (reaches-leads p q (r .0), reaches-leads q p (r .1)), λ l. and-both (reaches s p q) (reaches s q p) (path-reaches (l .0 .1)) (path-reaches (l .1 .1)))

@@ -10,10 +10,10 @@ use lib.Dec.{eqb, ltb}
 use lib.ListN.{length}
 use borrow.Author.Tests.{eqb-true, ltb-true}
 use Rattle.rules.specs.Basics.{any}
-use Rattle.rules.specs.Systems.{System, Path, here, step}
+use Rattle.rules.specs.Systems.{System, Path, here, step, Leads}
 use Rattle.rules.specs.Runs.{Taken, passFrom, goesFrom, endOf, isClosedWalk}
 use Rattle.rules.proofs.Bools.{clash, or-cases, and-parts}
-use Rattle.rules.proofs.Reach.{Leads, path-append, together-view, inside-of-return, Met}
+use Rattle.rules.proofs.Reach.{path-append, together-view, inside-of-return, Met}
 use Rattle.rules.proofs.Runs.{path-below}
 
 walk-path : (s : System) (xs : List Taken) (p : ℕ) → goesFrom s p xs ≡ true

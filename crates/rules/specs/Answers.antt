@@ -3,14 +3,18 @@
 --                                refusal's number
 --     accepts, rejects, stops n, refused n     the four answers
 --     judgedBy s q lead l good   stops, or accepts exactly if the recurring transitions are good
+--     Verdict s q lead l good x      x is what the recurring transitions decide: those taken in some repetition after the r-th for every r
+--     JudgedAs s q lead l good x     x is the answer: stops exactly if the run meets a missing transition, else that verdict
 --     unlessRefused f x          the answer x, unless there is a refusal f
-use mathlib.Core.Bool.{Bool}
+use mathlib.Core.Path.{_≡_}
+use mathlib.Core.Logic.{_↔_}
+use mathlib.Core.Bool.{Bool, true}
 use mathlib.Core.List.{List}
 use Prim.Native.Nat.{ℕ}
 use lib.Dec.{leb}
-use Rattle.rules.specs.Basics.{pick}
+use Rattle.rules.specs.Basics.{pick, any}
 use Rattle.rules.specs.Systems.{System}
-use Rattle.rules.specs.Runs.{Taken, settled, recurring}
+use Rattle.rules.specs.Runs.{Taken, isTaken, settled, recurring, MeetsMissing, Recurs}
 
 pub record Answer : Type 0 where
   pub word : ℕ
@@ -30,6 +34,15 @@ refused n = record { word = 3; value = n }
 
 abbrev pub judgedBy : System → ℕ → List ℕ → List ℕ → (List Taken → Bool) → Answer
 judgedBy s q lead l good = pick (settled s q lead l .stopped) (stops (settled s q lead l .read)) (pick (good (recurring s q lead l)) accepts rejects)
+
+pub record Verdict (s : System) (q : ℕ) (lead l : List ℕ) (good : List Taken → Bool) (x : Answer) : Type 0 where
+  pub recurring : List Taken
+  pub recurs : (y : Taken) → (any (isTaken y) recurring ≡ true) ↔ Recurs s q lead l y
+  pub decided : x ≡ pick (good recurring) accepts rejects
+
+pub record JudgedAs (s : System) (q : ℕ) (lead l : List ℕ) (good : List Taken → Bool) (x : Answer) : Type 0 where
+  pub stop : (i : ℕ) → (x ≡ stops i) ↔ MeetsMissing s q lead l i
+  pub verdict : ((i : ℕ) → MeetsMissing s q lead l i → ⊥) → Verdict s q lead l good x
 
 abbrev pub unlessRefused : ℕ → Answer → Answer
 unlessRefused f x = pick (leb 1 f) (refused f) x

@@ -7,6 +7,8 @@
 --                          2p + 1 if that pair is prohibited, else 2p
 --     priorityWith p m i best      what pair i at position p makes of the priority found before it
 --     priorityFrom p m o best      the same where o begins at position p of a record and best is the priority found before it
+--     hasMark m i          pair i has either mark
+--     PriorityIs m o x     x is that priority: the last pair of o with either mark decides it, 1 if there is none
 --     movedAlong arr ms o          the record o after a walk whose transitions have the marks ms
 --     largestPriority arr ms o     the largest priority on that walk
 --     satisfied ms i               pair i is never prohibited and once required on the walk
@@ -14,7 +16,7 @@
 --     decimalFrom v o      the same behind the digits of v
 --     sameOrder o o′       the two hold the same pairs in the same order
 use mathlib.Core.Path.{_≡_}
-use mathlib.Core.Bool.{Bool, true, false, not, _&&_}
+use mathlib.Core.Bool.{Bool, true, false, not, _&&_, _||_}
 use mathlib.Core.List.{List, [], _∷_, _++_}
 use Prim.Native.Nat.{ℕ, suc, _+_, _*_, max}
 use lib.Dec.{eqb}
@@ -44,6 +46,15 @@ priorityFrom p m (i ∷ o) best = priorityFrom (suc p) m o (priorityWith p m i b
 
 abbrev pub priority : Marks → List ℕ → ℕ
 priority m o = priorityFrom 1 m o 1
+
+abbrev pub hasMark : Marks → ℕ → Bool
+hasMark m i = m .prohibited i || m .required i
+
+pub record PriorityIs (m : Marks) (o : List ℕ) (x : ℕ) : Type 0 where
+  pub none : any (hasMark m) o ≡ false → x ≡ 1
+  -- the pairs u before it, so its position is one more than their number, and those after it have no mark
+  pub last : (u : List ℕ) (i : ℕ) (v : List ℕ) → u ++ (i ∷ v) ≡ o → hasMark m i ≡ true → any (hasMark m) v ≡ false
+      → x ≡ pick (m .prohibited i) (2 * (1 + length u) + 1) (2 * (1 + length u))
 
 -- along a walk
 abbrev pub movedAlong : (List ℕ → List ℕ) → List Marks → List ℕ → List ℕ

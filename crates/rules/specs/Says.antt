@@ -14,20 +14,24 @@
 --     TranslateSays bs c (rowArrays ts .. rows the) (rowArrays ts′ number translating: targets) ts, priorities ps, source states ss and record numbers es
 --     TranslationAgrees bs ts′ ps′ ss′ number rows    demand 3 of the arrays as the translator leaves them, whatever the entries past the rows are
 --     RabinSays, ParitySays                   judging a looped word
+--     ComponentsMean, TranslationMeans, RabinMeans, ParityMeans     what the equalities above mean, in terms of paths, reachable rows, orderings,
+--                                             missing transitions and recurring ones
 --     RestSays lead l i part                  the rest of a piece as that very part of it
 use mathlib.Core.Path.{_≡_}
 use mathlib.Core.Bool.{Bool, _||_}
 use mathlib.Core.List.{List, [], _++_}
 use Prim.Native.Nat.{ℕ, _-_, _*_}
 use lib.Dec.{eqb, ltb}
-use lib.ListN.{length, drop, replicate}
+use lib.ListN.{length, getD, drop, replicate}
 use Rattle.rules.specs.Basics.{pick, firstOf, when, tabulate}
 use Rattle.rules.specs.Limits.{maxRows}
 use Rattle.rules.specs.Refusals as Refusal
-use Rattle.rules.specs.Systems.{componentOf}
-use Rattle.rules.specs.Tables.{Table, tableOf, tableFault, systemOf}
-use Rattle.rules.specs.Answers.{Answer}
-use Rattle.rules.specs.Judges.{rabinJudge, parityJudge, restOf}
+use Rattle.rules.specs.Systems.{componentOf, ComponentsAre}
+use Rattle.rules.specs.Records.{decimal}
+use Rattle.rules.specs.Rows.{Row, Reached, MoreThan, RowsAre}
+use Rattle.rules.specs.Tables.{Table, tableOf, tableFault, systemOf, IsOrdering, tablePlan, StepIs}
+use Rattle.rules.specs.Answers.{Answer, JudgedAs}
+use Rattle.rules.specs.Judges.{satisfies, paritySystem, parityGood, wordFault, parityFault, rabinJudge, parityJudge, restOf}
 use Rattle.rules.specs.Claims.{tableRows, targets, priorities, sourceStates, recordNumbers, exceeds, Agrees}
 
 abbrev pub CheckSays : List ℕ → ℕ → Type 0
@@ -46,6 +50,9 @@ componentsFault bs n = firstOf (tableFault bs) (when (ltb n (tableOf bs .states)
 pub record ComponentsSay (bs o o′ : List ℕ) (r : ℕ) : Type 0 where
   pub number : r ≡ componentsFault bs (length o)
   pub array : o′ ≡ pick (eqb (componentsFault bs (length o)) 0) (over (components (tableOf bs)) o) o
+
+abbrev pub ComponentsMean : List ℕ → List ℕ → ℕ → Type 0
+ComponentsMean bs o′ r = r ≡ 0 → ComponentsAre (systemOf (tableOf bs)) (λ q. getD o′ q 0)
 
 -- translating
 abbrev pub areShort : ℕ → ℕ → ℕ → ℕ → ℕ → ℕ → Bool
@@ -83,12 +90,33 @@ pub record TranslateSays (bs : List ℕ) (c : ℕ) (o o′ : RowArrays) (number 
 abbrev pub TranslationAgrees : List ℕ → List ℕ → List ℕ → List ℕ → ℕ → ℕ → Type 0
 TranslationAgrees bs ts′ ps′ ss′ number rows = number ≡ 0 → Agrees bs rows ts′ ps′ ss′
 
+pub record TranslationMeans (bs : List ℕ) (c number : ℕ) : Type 0 where
+  -- refused 8 only where more than c different rows are reachable, and not refused only where there are no more
+  pub full : number ≡ Refusal.full → MoreThan (tablePlan (tableOf bs)) c
+  pub whole : number ≡ 0 → MoreThan (tablePlan (tableOf bs)) c → ⊥
+  -- for every capacity: the rows are exactly the reachable ones, each once, in order of discovery, unless there are more than c
+  pub rows : RowsAre (tablePlan (tableOf bs)) c
+  -- from a row by a letter
+  pub steps : (r : Row (List ℕ)) (a : ℕ) → StepIs (tableOf bs) r a (tablePlan (tableOf bs) .step r a)
+  -- each record is an ordering of the pairs that count in the component of its state, and its number determines it
+  pub orderings : tableFault bs ≡ 0 → {r : Row (List ℕ)} → Reached (tablePlan (tableOf bs)) r → IsOrdering (tableOf bs) (r .source) (r .memory)
+  pub numbers : tableFault bs ≡ 0 → {r r′ : Row (List ℕ)} → Reached (tablePlan (tableOf bs)) r → Reached (tablePlan (tableOf bs)) r′
+      → decimal (r .memory) ≡ decimal (r′ .memory) → r .memory ≡ r′ .memory
+
 -- judging
 abbrev pub RabinSays : List ℕ → List ℕ → List ℕ → Answer → Type 0
 RabinSays bs lead l r = r ≡ rabinJudge bs lead l
 
 abbrev pub ParitySays : ℕ → ℕ → List ℕ → List ℕ → List ℕ → List ℕ → Answer → Type 0
 ParitySays n m ts ps lead l r = r ≡ parityJudge n m ts ps lead l
+
+abbrev pub RabinMeans : List ℕ → List ℕ → List ℕ → Answer → Type 0
+RabinMeans bs lead l r = tableFault bs ≡ 0 → wordFault (tableOf bs .letters) lead l ≡ 0
+    → JudgedAs (systemOf (tableOf bs)) (tableOf bs .start) lead l (satisfies (tableOf bs)) r
+
+abbrev pub ParityMeans : ℕ → ℕ → List ℕ → List ℕ → List ℕ → List ℕ → Answer → Type 0
+ParityMeans n m ts ps lead l r = parityFault n m ts ps ≡ 0 → wordFault m lead l ≡ 0
+    → JudgedAs (paritySystem n m ts) 0 lead l (parityGood m ps) r
 
 abbrev pub RestSays : List ℕ → List ℕ → ℕ → List ℕ → Type 0
 RestSays lead l i part = part ≡ restOf lead l i

@@ -9,10 +9,14 @@
 --     isInside s q a      the transition of q by a is there and both its ends share a component; if it is there and is not inside, it is crossing
 --     metWithin s b q     some inside transition of q's component passes the test b
 --     Path s p w q        the letters of w lead from p to q by transitions that are there
+--     Leads s p q         some letters lead from p to q
+--     ComponentsAre s f   f gives each state the smallest state of its component, in terms of paths
 --     cell m q a          the number of the cell of state (or row) q and letter a in a table with m letters
+use mathlib.Core.Path.{_≡_}
+use mathlib.Core.Logic.{_↔_}
 use mathlib.Core.Bool.{Bool, _&&_, _||_}
 use mathlib.Core.List.{List, [], _∷_}
-use Prim.Native.Nat.{ℕ, zero, suc, _+_, _*_, _<_}
+use Prim.Native.Nat.{ℕ, zero, suc, _+_, _*_, _<_, _≤_}
 use lib.Dec.{eqb, ltb}
 use Rattle.rules.specs.Basics.{anyBelow, least}
 
@@ -46,6 +50,16 @@ metWithin s b q = anyBelow (s .states) (λ p. together s q p && anyBelow (s .let
 pub data Path (s : System) : ℕ → List ℕ → ℕ → Type 0 where
   here : {p : ℕ} → Path s p [] p
   step : {p a : ℕ} {w : List ℕ} {q : ℕ} → a < s .letters → s .go p a < s .states → Path s (s .go p a) w q → Path s p (a ∷ w) q
+
+abbrev pub Leads : System → ℕ → ℕ → Type 0
+Leads s p q = (w : List ℕ) × Path s p w q
+
+pub record ComponentsAre (s : System) (f : ℕ → ℕ) : Type 0 where
+  -- two states have the same number exactly if each reaches the other
+  pub shared : (p q : ℕ) → p < s .states → q < s .states → (f p ≡ f q) ↔ (Leads s p q × Leads s q p)
+  -- the number is a state of the component, and none of it is smaller
+  pub member : (q : ℕ) → q < s .states → (f q < s .states) × (f (f q) ≡ f q)
+  pub smallest : (p q : ℕ) → p < s .states → q < s .states → f p ≡ f q → f q ≤ p
 
 abbrev pub cell : ℕ → ℕ → ℕ → ℕ
 cell m q a = q * m + a

@@ -19,18 +19,19 @@
 --     marksOf t q a            the marks of the transition of q by a
 --     recordKeeper t           index appearance records as the memory of rows
 --     tablePlan t              the rows of the table's translation
+--     StepIs t r a x           x is what the row r does by the letter a, whole: no transition, a crossing, or an inside transition
 use mathlib.Core.Path.{_≡_}
-use mathlib.Core.Bool.{Bool, false, not, _&&_, _||_}
-use mathlib.Core.List.{List, [], _∷_}
-use Prim.Native.Nat.{ℕ, suc, _+_, _-_, _*_, _^_}
+use mathlib.Core.Bool.{Bool, true, false, not, _&&_, _||_}
+use mathlib.Core.List.{List, [], _∷_, _++_}
+use Prim.Native.Nat.{ℕ, suc, _+_, _-_, _*_, _^_, _≤_, _<_}
 use lib.Dec.{eqb, ltb, leb}
 use lib.ListN.{length, getD, take, drop}
 use Rattle.rules.specs.Basics.{pick, any, firstOf, when, occurs, keep, tabulate, bit}
 use Rattle.rules.specs.Limits.{maxStates, maxLetters, maxPairs, headerSize, noState}
 use Rattle.rules.specs.Refusals as Refusal
-use Rattle.rules.specs.Systems.{System, cell, metWithin}
-use Rattle.rules.specs.Records.{Marks, asTheyStood, moved, priority, sameOrder}
-use Rattle.rules.specs.Rows.{Keeper, Row, Plan, planOf}
+use Rattle.rules.specs.Systems.{System, cell, isInside, metWithin}
+use Rattle.rules.specs.Records.{Marks, asTheyStood, moved, priority, PriorityIs, sameOrder}
+use Rattle.rules.specs.Rows.{Step, Keeper, Row, row, Plan, planOf}
 
 pub record Table : Type 0 where
   pub states : ℕ
@@ -119,3 +120,13 @@ recordKeeper t = record { enter = rising t; move = λ q a o. moved asTheyStood (
 
 abbrev pub tablePlan : Table → Plan (Row (List ℕ))
 tablePlan t = planOf (systemOf t) (t .start) (recordKeeper t)
+
+pub record StepIs (t : Table) (r : Row (List ℕ)) (a : ℕ) (x : Step (Row (List ℕ))) : Type 0 where
+  -- no transition: priority 0
+  pub missing : t .states ≤ targetOf t (r .source) a → (x .there ≡ false) × (x .prio ≡ 0)
+  -- crossing: the target with its pairs rising, priority 1, whatever the marks
+  pub crossing : targetOf t (r .source) a < t .states → isInside (systemOf t) (r .source) a ≡ false
+      → (x .there ≡ true) × (x .to ≡ row (targetOf t (r .source) a) (rising t (targetOf t (r .source) a))) × (x .prio ≡ 1)
+  -- inside: the prohibited pairs first and then the others, each in the order that they had; the priority by the record before the move
+  pub inside : targetOf t (r .source) a < t .states → isInside (systemOf t) (r .source) a ≡ true
+      → (x .there ≡ true) × (x .to ≡ row (targetOf t (r .source) a) (keep (prohibits t (r .source) a) (r .memory) ++ keep (λ i. not (prohibits t (r .source) a i)) (r .memory))) × PriorityIs (marksOf t (r .source) a) (r .memory) (x .prio)
