@@ -14,7 +14,7 @@ use tables::letters_of;
 use translate::Translation;
 use translate::translate_table;
 ghost use mathlib.Core.Path.{_≡_};
-ghost use Rattle.rules.specs.Says.{CheckSays, ComponentsSay, TranslateSays, TranslationAgrees, RabinSays, ParitySays, rowArrays};
+ghost use Rattle.rules.specs.Says.{CheckSays, ComponentsSay, ComponentsMean, TranslateSays, TranslationAgrees, TranslationMeans, RabinSays, RabinMeans, ParitySays, ParityMeans, rowArrays};
 ghost use Rattle.rules.specs.Listings.{ListingSays};
 ghost use Rattle.rules.specs.Tables.{tableOf};
 ghost use Rattle.components.specs.Calls.{ComponentsFound, ReachFound, PathFound};
@@ -55,7 +55,8 @@ pub extern "C" fn duckbullion_letters_of(table: &[u8]) -> u8
 // The smallest state of each state's component, in the first n entries of `out`.
 #[no_mangle]
 pub extern "C" fn duckbullion_find_components(table: &[u8], out: &mut [u8]) -> u8
-    ensures { λ r. ⌜ ComponentsSay (now (table .entry)) (now (out .entry)) (now (out .exit)) r ⌝ }
+    ensures says { λ r. ⌜ ComponentsSay (now (table .entry)) (now (out .entry)) (now (out .exit)) r ⌝ }
+    ensures means { λ r. ⌜ ComponentsMean (now (table .entry)) (now (out .exit)) r ⌝ }
 {
     find_components(table, out)
 }
@@ -116,6 +117,7 @@ pub extern "C" fn duckbullion_translate_table(
 ) -> Translation
     ensures says { λ r. ⌜ TranslateSays (now (table .entry)) capacity (rowArrays (now (targets .entry)) (now (priorities .entry)) (now (sources .entry)) (now (records .entry))) (rowArrays (now (targets .exit)) (now (priorities .exit)) (now (sources .exit)) (now (records .exit))) (r .number) (r .rows) ⌝ }
     ensures agrees { λ r. ⌜ TranslationAgrees (now (table .entry)) (now (targets .exit)) (now (priorities .exit)) (now (sources .exit)) (r .number) (r .rows) ⌝ }
+    ensures means { λ r. ⌜ TranslationMeans (now (table .entry)) capacity (r .number) ⌝ }
 {
     translate_table(table, capacity, targets, priorities, sources, records)
 }
@@ -157,7 +159,8 @@ fn answer_of(judged: Judged) -> Answer
 // The answer of a Rabin table to a looped word.
 #[no_mangle]
 pub extern "C" fn duckbullion_judge_rabin(table: &[u8], lead: &[u8], looped: &[u8]) -> Answer
-    ensures { λ r. ⌜ RabinSays (now (table .entry)) (now (lead .entry)) (now (looped .entry)) (answered r) ⌝ }
+    ensures says { λ r. ⌜ RabinSays (now (table .entry)) (now (lead .entry)) (now (looped .entry)) (answered r) ⌝ }
+    ensures means { λ r. ⌜ RabinMeans (now (table .entry)) (now (lead .entry)) (now (looped .entry)) (answered r) ⌝ }
 {
     answer_of(judge_rabin(table, lead, looped))
 }
@@ -172,7 +175,8 @@ pub extern "C" fn duckbullion_judge_parity(
     lead: &[u8],
     looped: &[u8],
 ) -> Answer
-    ensures { λ r. ⌜ ParitySays rows letters (now (targets .entry)) (now (priorities .entry)) (now (lead .entry)) (now (looped .entry)) (answered r) ⌝ }
+    ensures says { λ r. ⌜ ParitySays rows letters (now (targets .entry)) (now (priorities .entry)) (now (lead .entry)) (now (looped .entry)) (answered r) ⌝ }
+    ensures means { λ r. ⌜ ParityMeans rows letters (now (targets .entry)) (now (priorities .entry)) (now (lead .entry)) (now (looped .entry)) (answered r) ⌝ }
 {
     answer_of(judge_parity(rows, letters, targets, priorities, lead, looped))
 }

@@ -10,7 +10,7 @@ pub mod words;
 
 ghost use mathlib.Core.Path.{_≡_};
 ghost use lib.ListN.{length};
-ghost use Rattle.rules.specs.Says.{ParitySays, RestSays};
+ghost use Rattle.rules.specs.Says.{ParitySays, ParityMeans, RestSays};
 ghost use Rattle.judge.specs.Judgements.{answerOf};
 ghost use Rattle.judge.specs.Parts.{restAt};
 
@@ -31,7 +31,8 @@ pub fn judge_parity(
     lead: &[u8],
     looped: &[u8],
 ) -> Judged
-    ensures { λ r. ⌜ ParitySays rows letters (now (targets .entry)) (now (priorities .entry)) (now (lead .entry)) (now (looped .entry)) (answerOf r) ⌝ }
+    ensures says { λ r. ⌜ ParitySays rows letters (now (targets .entry)) (now (priorities .entry)) (now (lead .entry)) (now (looped .entry)) (answerOf r) ⌝ }
+    ensures means { λ r. ⌜ ParityMeans rows letters (now (targets .entry)) (now (priorities .entry)) (now (lead .entry)) (now (looped .entry)) (answerOf r) ⌝ }
 {
     let table_fault = parity::parity_fault(rows, letters, targets, priorities);
     let word_fault = words::word_fault(words::byte_of(letters), lead, looped);

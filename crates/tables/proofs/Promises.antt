@@ -2,6 +2,7 @@
 --     components-refused, lay-refused        the table's own refusal
 --     components-short, lay-short            an array too short
 --     components-found, laid                 done
+--     components-promised                    the components' second promise, from the first
 --     survey-room                            what holds where a survey fits
 use mathlib.Core.Path.{_≡_, refl}
 use mathlib.Core.Bool.{Bool, true, false, _&&_, _||_}
@@ -14,14 +15,18 @@ use borrow.Author.Tests.{lt-ltb, le-ltb, leb-true}
 use Rattle.rules.specs.Limits.{maxStates, maxLetters}
 use Rattle.rules.specs.Refusals as Refusal
 use Rattle.rules.specs.Tables.{tableOf, tableFault}
-use Rattle.rules.specs.Says.{over, components, ComponentsSay}
+use Rattle.rules.specs.Says.{over, components, ComponentsSay, ComponentsMean}
 use Rattle.rules.proofs.Bools.{and-parts}
+use Rattle.rules.proofs.Meanings.{components-mean}
 use Rattle.tables.specs.Parts.{Taken}
 use Rattle.tables.specs.Layouts.{targetCells, markCells, layFault, LaySays, surveyFits}
 
 pub components-refused : (bs o : List ℕ) (r : ℕ) → r ≡ tableFault bs → (r ≡ 0 → ⊥) → ComponentsSay bs o o r
 components-refused bs o zero e d = absurd (d refl)
 components-refused bs o (suc r) e d = record { number = rw (← e); array = rw (← e, eqb·suc-zero r) }
+
+pub components-promised : {bs o o′ : List ℕ} {r : ℕ} → ComponentsSay bs o o′ r → ComponentsSay bs o o′ r × ComponentsMean bs o′ r
+components-promised says = (says, components-mean _ _ _ _ says)
 
 -- nothing is laid out, with a refusal that is not 0
 unlaid : (bs ts ms : List ℕ) (r : ℕ) → (r ≡ 0 → ⊥) → r ≡ layFault bs (length ts) (length ms) → LaySays bs ts ts ms ms r 0 0 0

@@ -14,7 +14,7 @@ mod survey;
 
 ghost use mathlib.Core.Path.{_≡_};
 ghost use Prim.Native.Nat.{_+_, _*_};
-ghost use Rattle.rules.specs.Says.{CheckSays, ComponentsSay};
+ghost use Rattle.rules.specs.Says.{CheckSays, ComponentsSay, ComponentsMean};
 ghost use Rattle.rules.specs.Tables.{tableOf};
 ghost use Rattle.tables.specs.Layouts.{LaySays, surveyFits, SurveySays};
 
@@ -74,7 +74,8 @@ pub fn check_table(table: &[u8]) -> u8
 
 // The smallest state of each state's component, in the first n entries of `out`.
 pub fn find_components(table: &[u8], out: &mut [u8]) -> u8
-    ensures { λ r. ⌜ ComponentsSay (now (table .entry)) (now (out .entry)) (now (out .exit)) r ⌝ }
+    ensures says { λ r. ⌜ ComponentsSay (now (table .entry)) (now (out .entry)) (now (out .exit)) r ⌝ }
+    ensures means { λ r. ⌜ ComponentsMean (now (table .entry)) (now (out .exit)) r ⌝ }
 {
     let refused = check_table(table);
     if refused != 0 {

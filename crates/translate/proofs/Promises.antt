@@ -4,7 +4,7 @@
 --     translate-short          the capacity or an array out of range
 --     translate-nothing        either of the two
 --     translate-explored       the rows were looked for, and the arrays cleared behind those that are kept
---     promised                 both promises, from the first
+--     promised                 all promises, from the first
 use mathlib.Core.Path.{_≡_, refl, sym, ap, _∙_}
 use mathlib.Core.Bool.{Bool, true, false}
 use mathlib.Core.List.{List, [], append-nil, map}
@@ -23,13 +23,14 @@ use Rattle.rules.specs.Records.{decimal}
 use Rattle.rules.specs.Rows.{Row, Plan, rowsOf, isFull}
 use Rattle.rules.specs.Tables.{Table, tableOf, tableFault, tablePlan}
 use Rattle.rules.specs.Claims.{targets, priorities, sourceStates, recordNumbers}
-use Rattle.rules.specs.Says.{areShort, translateFault, padded, afterwards, TranslateSays, TranslationAgrees, rowArrays}
+use Rattle.rules.specs.Says.{areShort, translateFault, padded, afterwards, TranslateSays, TranslationAgrees, TranslationMeans, rowArrays}
 use Rattle.rules.proofs.Bools.{by}
 use Rattle.rules.proofs.Arrays.{getD-any, cells-length, mapped-at}
 use Rattle.rules.proofs.Coding.{all-at, row-coded, rows-coded, rows-good, full-coded, targets-coded, priorities-coded}
 use Rattle.rules.proofs.Filling.{beyond-then, beyond-wider, over-front, over-beyond, padded-is, filled-is, cleared-is}
 use Rattle.rules.proofs.Refusals.{TakenArrays, arrays-taken, taken-table, fault-below}
 use Rattle.rules.proofs.Demands.{says-agrees}
+use Rattle.rules.proofs.Meanings.{translation-means}
 use Rattle.tables.specs.Parts.{Taken}
 use Rattle.explore.specs.declared.Rule.the-variants.{Pairs}
 use Rattle.explore.specs.declared.Explored.{Explored}
@@ -206,5 +207,5 @@ module _ (bs : List ℕ) (letters c : ℕ) (ts ps ss es : List ℕ) (taken : Tak
     translate-explored r k left = let l = rw (k, same-letters) at left in rw (r, k) (by-answer (said-full l) (said-done l))
 
 pub promised : {bs : List ℕ} {c : ℕ} {ts ts′ ps ps′ ss ss′ es es′ : List ℕ} {number rows : ℕ} → TranslateSays bs c (rowArrays ts ps ss es) (rowArrays ts′ ps′ ss′ es′) number rows
-    → TranslateSays bs c (rowArrays ts ps ss es) (rowArrays ts′ ps′ ss′ es′) number rows × TranslationAgrees bs ts′ ps′ ss′ number rows
-promised s = (s, says-agrees _ _ _ _ _ _ _ _ _ _ _ _ s)
+    → TranslateSays bs c (rowArrays ts ps ss es) (rowArrays ts′ ps′ ss′ es′) number rows × (TranslationAgrees bs ts′ ps′ ss′ number rows × TranslationMeans bs c number)
+promised s = (s, (says-agrees _ _ _ _ _ _ _ _ _ _ _ _ s, translation-means _ _ _ _ _ _ s))

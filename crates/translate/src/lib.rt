@@ -1,6 +1,6 @@
 // Translates a Rabin table into a parity table, by index appearance records.
 // It rests on `tables`, which checks a table, lays it out and says what counts where, and on `explore`, which finds the rows. `translate_table` keeps
-// the promise `TranslateSays` of the rules, and with it demand 3 of the arrays as they are left, `TranslationAgrees`.
+// the promise `TranslateSays` of the rules, with it demand 3 of the arrays as they are left, `TranslationAgrees`, and what the rows mean, `TranslationMeans`.
 use crate::encode::FEW_BYTES;
 use crate::encode::FEW_CELLS;
 use crate::encode::MAX_CELLS;
@@ -18,7 +18,7 @@ mod rows;
 
 ghost use mathlib.Core.Path.{_≡_};
 ghost use mathlib.Core.Bool.{true};
-ghost use Rattle.rules.specs.Says.{TranslateSays, TranslationAgrees, rowArrays};
+ghost use Rattle.rules.specs.Says.{TranslateSays, TranslationAgrees, TranslationMeans, rowArrays};
 ghost use lib.ListN.{length};
 ghost use Rattle.translate.specs.Cells.{fewCells, HasCells};
 ghost use Rattle.translate.specs.Rows.{refusalOf, rowsKept};
@@ -61,6 +61,7 @@ fn translate_in(
     requires { ⌜ (few ≡ true → HasCells (now table) fewCells) × HasCells (now table) (length (now cells)) ⌝ }
     ensures says { λ r. ⌜ TranslateSays (now (table .entry)) capacity (rowArrays (now (targets .entry)) (now (priorities .entry)) (now (sources .entry)) (now (records .entry))) (rowArrays (now (targets .exit)) (now (priorities .exit)) (now (sources .exit)) (now (records .exit))) (r .number) (r .rows) ⌝ }
     ensures agrees { λ r. ⌜ TranslationAgrees (now (table .entry)) (now (targets .exit)) (now (priorities .exit)) (now (sources .exit)) (r .number) (r .rows) ⌝ }
+    ensures means { λ r. ⌜ TranslationMeans (now (table .entry)) capacity (r .number) ⌝ }
 {
     let m = letters_of(table);
     let short = are_short(
@@ -114,6 +115,7 @@ pub fn translate_table(
 ) -> Translation
     ensures says { λ r. ⌜ TranslateSays (now (table .entry)) capacity (rowArrays (now (targets .entry)) (now (priorities .entry)) (now (sources .entry)) (now (records .entry))) (rowArrays (now (targets .exit)) (now (priorities .exit)) (now (sources .exit)) (now (records .exit))) (r .number) (r .rows) ⌝ }
     ensures agrees { λ r. ⌜ TranslationAgrees (now (table .entry)) (now (targets .exit)) (now (priorities .exit)) (now (sources .exit)) (r .number) (r .rows) ⌝ }
+    ensures means { λ r. ⌜ TranslationMeans (now (table .entry)) capacity (r .number) ⌝ }
 {
     if table.len() <= FEW_BYTES {
         let mut cells = [0; FEW_CELLS];

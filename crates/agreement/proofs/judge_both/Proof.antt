@@ -14,8 +14,8 @@ returns c =
     let a = c .before .before .before .before .before .before .before .before .before .before .before .before .before .before .before .before .before .before .before .before .before .before .before .before .before .args in
     let rabin = c .before .before .before .before .judge-rabin in
     let translation = c .before .before .before .before .before .before .before .before .before .before .before .before .before .translate-table in
-    let parity = rw (c .before .before .before .letters-of .ensures) at (c .judge-parity .ensures) in
-    (translation .ensures .0, (rabin .ensures, (parity, λ z. judges-agree _ _ _ _ _ (a .lead .now) (a .looped .now) _ _ (translation .ensures .1 z) (rabin .ensures) parity)))
+    let parity = rw (c .before .before .before .letters-of .ensures) at (c .judge-parity .ensures .0) in
+    (translation .ensures .0, (rabin .ensures .0, (parity, λ z. judges-agree _ _ _ _ _ (a .lead .now) (a .looped .now) _ _ (translation .ensures .1 .0 z) (rabin .ensures .0) parity)))
 
 pub judge-both-spec : {M : Type 1} → statement M
 judge-both-spec =

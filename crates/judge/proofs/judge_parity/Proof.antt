@@ -1,16 +1,26 @@
 -- `judge::judge_parity` meets its contract: a refusal of the table, a refusal of the word, or the run's answer.
 use mathlib.Core.Path.{_≡_, sym, ap, _∙_}
+use mathlib.Core.List.{List}
 use Prim.Native.Nat.{ℕ}
 use borrow.Author.Needs.{needs}
 use Rattle.rules.specs.Basics.{firstOf}
+use Rattle.rules.specs.Answers.{Answer}
 use Rattle.rules.specs.Judges.{parityFault, wordFault, parityRun}
-use Rattle.rules.specs.Says.{ParitySays}
+use Rattle.rules.specs.Says.{ParitySays, ParityMeans}
+use Rattle.rules.proofs.Meanings.{parity-means}
 use Rattle.rules.proofs.Refusals.{first-zero}
 use Rattle.judge.specs.Judgements.{answerOf}
 use Rattle.judge.specs.declared.Judged.{Judged}
 use Rattle.judge.proofs.Checks.{first-same, refused-given, byte-letters}
 use Rattle.judge.proofs.judge_parity.Statement.{statement}
 use Rattle.judge.proofs.judge_parity.Tie as tie
+
+-- both promises, from the first
+abbrev Promised : ℕ → ℕ → List ℕ → List ℕ → List ℕ → List ℕ → Answer → Type 0
+Promised n m ts ps lead l x = ParitySays n m ts ps lead l x × ParityMeans n m ts ps lead l x
+
+promised : (n m : ℕ) (ts ps lead l : List ℕ) {x : Answer} → ParitySays n m ts ps lead l x → Promised n m ts ps lead l x
+promised n m ts ps lead l says = (says, parity-means n m ts ps lead l _ says)
 
 -- the refusal, of the table or of the word
 module _ (c : tie.After-first-fault) where
@@ -32,11 +42,14 @@ module _ (c : tie.Else1) where
 
   -- the run's answer is the judge's
   judged : (r : Judged) → answerOf r ≡ parityRun (s .args .rows) (s .args .letters) (s .args .targets .now) (s .args .priorities .now) (s .args .lead .now) (s .args .looped .now)
-      → ParitySays (s .args .rows) (s .args .letters) (s .args .targets .now) (s .args .priorities .now) (s .args .lead .now) (s .args .looped .now) (answerOf r)
-  judged r h = rw (taken .0, taken .1) h
+      → Promised (s .args .rows) (s .args .letters) (s .args .targets .now) (s .args .priorities .now) (s .args .lead .now) (s .args .looped .now) (answerOf r)
+  judged r h =
+      promised (s .args .rows) (s .args .letters) (s .args .targets .now) (s .args .priorities .now) (s .args .lead .now) (s .args .looped .now) (rw (taken .0, taken .1) h)
 
 returns : tie.Need-returns
-returns c = rw (← refusal (c .before)) (refused-given _ _ (c .if1 .taken))
+returns c =
+    let a = start (c .before) .args in
+    promised (a .rows) (a .letters) (a .targets .now) (a .priorities .now) (a .lead .now) (a .looped .now) (rw (← refusal (c .before)) (refused-given _ _ (c .if1 .taken)))
 
 judge-few-requires : tie.Need-judge-few-requires
 judge-few-requires c κs = let one = c .before in (taken one .0, taken one .1, c .if2 .taken)

@@ -1,17 +1,25 @@
 -- `judge_rabin::judge_rabin` meets its contract: a refusal of the table, a refusal of the word, or the run's answer.
 use mathlib.Core.Path.{_≡_, sym, ap, _∙_}
+use mathlib.Core.List.{List}
 use Prim.Native.Nat.{ℕ}
 use borrow.Author.Needs.{needs}
 use Rattle.rules.specs.Basics.{firstOf}
 use Rattle.rules.specs.Limits.{maxStates}
+use Rattle.rules.specs.Answers.{Answer}
 use Rattle.rules.specs.Judges.{wordFault}
+use Rattle.rules.specs.Says.{RabinSays, RabinMeans}
 use Rattle.rules.specs.Tables.{tableOf, tableFault}
 use Rattle.rules.proofs.Filling.{zeros-at}
+use Rattle.rules.proofs.Meanings.{rabin-means}
 use Rattle.rules.proofs.Refusals.{taken-table, first-zero}
 use Rattle.tables.specs.Parts.{Taken}
 use Rattle.judge.proofs.Checks.{first-same, refused-given}
 use Rattle.judge_rabin.proofs.judge_rabin.Statement.{statement}
 use Rattle.judge_rabin.proofs.judge_rabin.Tie as tie
+
+-- both promises, from the first
+promised : (bs lead l : List ℕ) {x : Answer} → RabinSays bs lead l x → RabinSays bs lead l x × RabinMeans bs lead l x
+promised bs lead l says = (says, rabin-means bs lead l _ says)
 
 -- the refusal, of the table or of the word
 module _ (c : tie.After-first-fault) where
@@ -27,7 +35,7 @@ taken : (c : tie.Else1) → let s = start (c .before) in Taken (s .args .table .
 taken c = first-zero _ _ (sym (refusal (c .before)) ∙ c .if1 .left)
 
 returns : tie.Need-returns
-returns c = rw (← refusal (c .before)) (refused-given _ _ (c .if1 .taken))
+returns c = let a = start (c .before) .args in promised (a .table .now) (a .lead .now) (a .looped .now) (rw (← refusal (c .before)) (refused-given _ _ (c .if1 .taken)))
 
 judge-word-requires : tie.Need-judge-word-requires
 judge-word-requires c κs =
@@ -36,7 +44,12 @@ judge-word-requires c κs =
     (t .0, t .1, record { enough = n; none = zeros-at maxStates }, n, n)
 
 returns-2 : tie.Need-returns-2
-returns-2 c = let w = c .before .before .before in let t = taken (w .before .before .before .before) in rw (t .0, t .1) (w .judge-word .ensures)
+returns-2 c =
+    let w = c .before .before .before in
+    let e : tie.Else1 = w .before .before .before .before in
+    let t = taken e in
+    let a = start (e .before) .args in
+    promised (a .table .now) (a .lead .now) (a .looped .now) (rw (t .0, t .1) (w .judge-word .ensures))
 
 pub judge-rabin-spec : {M : Type 1} → statement M
 judge-rabin-spec =

@@ -16,7 +16,7 @@ use Rattle.tables.proofs.Refused.{targets-part}
 use Rattle.tables.proofs.Cells.{target-count}
 use Rattle.tables.proofs.Laying.{targets-written, targets-laid, is-table, laid-homes}
 use Rattle.tables.proofs.Surveying.{component-below}
-use Rattle.tables.proofs.Promises.{components-refused, components-short, components-found}
+use Rattle.tables.proofs.Promises.{components-refused, components-short, components-found, components-promised}
 use Rattle.tables.proofs.find_components.Statement.{statement}
 use Rattle.tables.proofs.find_components.Tie as tie
 
@@ -32,10 +32,10 @@ module _ (c : tie.Else1) where
   known = taken-table bytes taken
 
 returns : tie.Need-returns
-returns c = components-refused _ _ _ (c .before .check-table .ensures) (c .if1 .taken)
+returns c = components-promised (components-refused _ _ _ (c .before .check-table .ensures) (c .if1 .taken))
 
 returns-2 : tie.Need-returns-2
-returns-2 c = components-short _ (taken (c .before .before)) _ (c .if2 .taken)
+returns-2 c = components-promised (components-short _ (taken (c .before .before)) _ (c .if2 .taken))
 
 lay-targets-requires : tie.Need-lay-targets-requires
 lay-targets-requires c κs =
@@ -80,7 +80,7 @@ returns-3 c =
     let e : tie.Else1 = c .before .before .before .before .before .before .before .before .before .before .before .before .before .before .before .before in
     let h = homes-listed (c .before .before .before .before .before .before) in
     let same = tabulate-same _ (componentOf (systemIn (bytes e))) (statesOf (bytes e)) 0 (λ q l u. h .entry q (omega arith)) in
-    components-found _ (taken e) _ _ (c .before .before .before .before .before .before .before .before .before .before .before .before .before .before .if2 .left) (c .before .before .narrow .ensures ∙ ap (λ (xs : List ℕ). over xs (c .before .before .before .before .before .before .before .before .before .before .before .before .before .before .before .before .before .before .before .before .args .out .now)) same)
+    components-promised (components-found _ (taken e) _ _ (c .before .before .before .before .before .before .before .before .before .before .before .before .before .before .if2 .left) (c .before .before .narrow .ensures ∙ ap (λ (xs : List ℕ). over xs (c .before .before .before .before .before .before .before .before .before .before .before .before .before .before .before .before .before .before .before .before .args .out .now)) same))
 
 pub find-components-spec : {M : Type 1} → statement M
 find-components-spec =
