@@ -2,19 +2,24 @@
  * Duckbullion: deterministic Rabin automata translated into deterministic parity automata, for C and C++.
  *
  * Every call takes any bytes, arrays, sizes and places, however malformed, and says what it made of them: a refusal is
- * a number. What each call is said here to do is proved of it, for all arguments; "document 01" is the requirements
- * paper, whose clauses are the definitions that the proofs are about (README.md). `rt staticlib exported` makes the
- * archive target/staticlib/libexported.a, for x86-64 Linux; it needs no library but C's.
+ * a number. docs/RULES.md says in full what tables, records, rows, words, judges, refusals and listings are.
+ * `rt staticlib exported` makes the archive target/staticlib/libexported.a, for x86-64 Linux; it needs no library but
+ * C's.
  *
- * What a caller must see to, since no call can look at it:
+ * What a caller must guarantee, since no call can check it:
  *   - A pointer with length L points to L elements of its type, aligned for it, that may be read, and written where the
  *     pointer is not const. L counts elements, not bytes.
  *   - An array that a call may write shares no element with any other array of the same call, and nobody else uses it
  *     during the call. Arrays that are only read may overlap each other.
  *   - An array of length 0 is neither read nor written. A NULL pointer with length 0 was tried for every array of every
  *     call and is taken as an empty array; the proofs speak of valid pointers only.
- * No call keeps a pointer, allocates memory, or has a state of its own; calls that write different arrays may run at
- * once. A call takes less than 64 KiB of stack (measured, not proved).
+ *
+ * What is known of a call, and how:
+ *   - Proved, for all arguments: its result, and what each array holds afterwards, as said here.
+ *   - By the language, which has no heap and no static variables: a call allocates no memory, has no state and keeps no
+ *     pointer. Calls that write different arrays may run at the same time.
+ *   - Measured only, with room added: a call takes less than 96 KiB of stack. A thread's stack was filled with a
+ *     pattern, and it was read off how much of that was gone (docs/DECISIONS.md, "The stack of a call").
  */
 #ifndef DUCKBULLION_H
 #define DUCKBULLION_H
@@ -49,9 +54,10 @@ enum {
 };
 
 /*
- * Refusals. Each is given when its condition is the first met, and otherwise not:
+ * Refusals (docs/RULES.md, "Refusals"). Each is given when its condition is the first met, and otherwise not:
  *   of a Rabin table    fewer than 4 bytes (1), 2, the length (1 or 3), 4, 5 over all cells, 6 over all cells
- *   of lent arrays      the table's, then 7, then 8 (only the translator gives 8)
+ *   of lent arrays      the table's, then 7, then 8 (8 is given by duckbullion_translate_table and printed by
+ *                       duckbullion_list_table; no other call counts rows)
  *   of a looped word    the table's (1 to 6 for a Rabin table, 11 for a parity table), then 10, then 9
  */
 enum {
@@ -70,7 +76,7 @@ enum {
                                neither below N nor 65,535 */
 };
 
-/* The words of an answer. */
+/* The words of an answer; the numbers are our own. */
 enum {
     DUCKBULLION_ACCEPTS = 0, /* value 0 */
     DUCKBULLION_REJECTS = 1, /* value 0 */
@@ -110,17 +116,18 @@ uint8_t duckbullion_letters_of(const uint8_t *table, size_t table_length);
  * Components. Two states share a component if they are equal or each reaches the other.
  * Result: the table's refusal; then 7 where out has fewer than n places; else 0.
  * On 0 the first n entries of out are, state by state, the smallest state of the state's component, and the entries
- * behind are untouched. On a refusal out holds what it held.
+ * past them are untouched. On a refusal out holds what it held.
  */
 uint8_t duckbullion_find_components(const uint8_t *table, size_t table_length,
                                     uint8_t *out, size_t out_length);
 
 /*
- * Systems in an array, for tests and benchmarks. A system has n states and m letters, both below 65,535; cell q*m + a of
- * targets says where state q goes by letter a, and a target that is no state means that there is no transition.
- * Result: true where n and m are in range, targets has n*m entries, work 5*n and out n; else false, and nothing is
- * written. On true the first n entries of out are, state by state, the smallest state of the state's component, and the
- * entries behind are untouched. The array work is to work in: what it holds afterwards is not said.
+ * Systems in an array, for tests and benchmarks. A system has n states and m letters, both below 65,535; cell q*m + a
+ * of targets says where state q goes by letter a, and a target that is no state means that there is no transition.
+ * Result: true where n and m are in range and targets has at least n*m entries, work 5*n and out n; else false, and out
+ * holds what it held. On true the first n entries of out are, state by state, the smallest state of the state's
+ * component, and the entries past them are untouched. The array work is scratch space: what it holds afterwards is left
+ * open.
  */
 bool duckbullion_find_components_of_system(size_t states, size_t letters,
                                            const uint16_t *targets, size_t targets_length,
@@ -128,11 +135,11 @@ bool duckbullion_find_components_of_system(size_t states, size_t letters,
                                            uint16_t *out, size_t out_length);
 
 /*
- * All that a state reaches, by a breadth-first search. Result: how many states are reached, from itself included; 0 where
- * m is above 256, from is no state, or sizes or arrays do not fit as above, and then nothing is written.
+ * All states that the state `from` reaches, by a breadth-first search. Result: how many are reached, `from` included; 0
+ * where m is above 256, from is no state, or sizes or arrays do not fit as above, and then nothing is written.
  * Afterwards numbers has for each state its place in the queue plus 1, or 0 where it is not reached; queue has for each
- * place the state, parents the place that it was met from, an earlier one, and by the letter. Place 0 is from. Entries of
- * numbers past the states, and of the other arrays past the places, are untouched.
+ * place the state, parents the place from which it was first met, an earlier one, and by the letter. Place 0 is `from`.
+ * Entries of numbers past the states, and of the other arrays past the places, are untouched.
  */
 size_t duckbullion_find_reached(size_t states, size_t letters,
                                 const uint16_t *targets, size_t targets_length,
@@ -143,8 +150,9 @@ size_t duckbullion_find_reached(size_t states, size_t letters,
                                 uint8_t *by, size_t by_length);
 
 /*
- * A path to the state at a place, from what such a search has left in parents and by. Result: where its letters begin in
- * out; they go to the end of out, and the entries before are untouched. out has at least as many entries as place.
+ * A path to the state at a place, from what such a search has left in parents and by. Result: where its letters begin
+ * in out; they go to the end of out, and the entries before them are untouched. It is such a path where place is below
+ * the number of states reached and out has at least as many entries as place; else what is written is left open.
  */
 size_t duckbullion_path_to(size_t place,
                            const uint16_t *parents, size_t parents_length,
@@ -158,9 +166,9 @@ size_t duckbullion_path_to(size_t place,
  * priorities, c source states and c record numbers, and may be longer.
  * Result: number is the table's refusal; then 7 for the capacity or an array; then 8 where more than c rows are
  * reachable; else 0. rows is the number of rows N on 0, and 0 on a refusal.
- * On 0: for each row q below N and each letter a, cell q*m + a of targets and priorities is the row that it leads to and
- * its priority, 65,535 and 0 for a missing transition; sources has the row's state, records its pair numbers read as
- * one decimal number, 0 if there are none. Rows N to c - 1 are 0 in all four arrays.
+ * On 0: for each row q below N and each letter a, cell q*m + a of targets and priorities is the row that it leads to
+ * and its priority, 65,535 and 0 for a missing transition; sources has the row's state, records its pair numbers read
+ * as one decimal number, 0 if there are none. Rows N to c - 1 are 0 in all four arrays.
  * On 8: the first c rows of all four arrays (c*m cells, c entries) are 0.
  * On another number: all four arrays hold what they held. Entries past row c - 1 are never touched.
  * On 0, as long as nobody writes the arrays, duckbullion_judge_rabin on the table and duckbullion_judge_parity on N, m,
@@ -174,9 +182,12 @@ duckbullion_translation duckbullion_translate_table(const uint8_t *table, size_t
                                                     uint32_t *records, size_t records_length);
 
 /*
- * Translates as duckbullion_translate_table does, with the same later contents of the four arrays, and writes the
- * listing of the outcome (document 01, "Listing program") into out.
- * Result: the length of the whole text. What does not fit out is dropped; bytes behind the text stay.
+ * Translates as duckbullion_translate_table does, with the same later contents of the four row arrays, and writes the
+ * text of the outcome into out: on 0 the listing (docs/RULES.md, "Listing"), on a refusal N the line "refused N" with
+ * its line feed. So out is written on a refusal too; the four row arrays follow the rule for refusals.
+ * Result: the length of the whole text in bytes, whatever of it fits. What does not fit into out is dropped, bytes of
+ * out past the text are untouched, and no NUL is added. With out_length 0 the call only gives the length.
+ * A listing of at most c rows and m letters has at most 10 + 26*c*m bytes, and the line of a refusal has 10.
  */
 size_t duckbullion_list_table(const uint8_t *table, size_t table_length,
                               size_t capacity,
@@ -189,9 +200,8 @@ size_t duckbullion_list_table(const uint8_t *table, size_t table_length,
 /*
  * Judges. A run begins at the start, reads the lead-in, then the loop again and again. At a missing transition it
  * stops. A transition recurs if it is taken in repetitions without end.
- * Answer: refused with the table's refusal, then 10, then 9; else stops, with the letters read, exactly if the run meets
- * a missing transition; else accepts or rejects.
- * Arrays are only read.
+ * Answer: refused with the table's refusal, then 10, then 9; else stops, with the letters read, exactly if the run
+ * meets a missing transition; else accepts or rejects. Arrays are only read.
  */
 
 /*
