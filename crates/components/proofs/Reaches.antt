@@ -18,10 +18,10 @@ use lib.ListN.{length, take, drop, set, length-append}
 use lib.Seq.{drop-cons, drop-length, drop-set-lt, getD-set-same, lt-length-set, take-set-le, take-take}
 use borrow.Author.Tests.{eqb-true, lt-ltb}
 use Rattle.rules.specs.Arrays.{Cleared}
-use Rattle.rules.specs.Systems.{System, reaches, Path, here, step}
+use Rattle.rules.specs.Systems.{System, Path, here, step, Leads}
 use Rattle.rules.proofs.Bools.{by, clash}
 use Rattle.rules.proofs.Filling.{beyond-none, beyond-set, beyond-then, beyond-wider}
-use Rattle.rules.proofs.Reach.{path-append, path-reaches, reaches-view}
+use Rattle.rules.proofs.Reach.{path-append}
 use Rattle.components.specs.Places.{at, Put}
 use Rattle.components.specs.Reaches.{Came, Reached, ReachRoom, Untouched, ReadSays}
 use Rattle.components.specs.Calls.{PathFound}
@@ -145,13 +145,14 @@ module _ (s : System) (from c k a : ℕ) (number queue parent letter : ℕ → �
   abbrev Known : ℕ → Type 0
   Known y = (y < s .states) × (0 < number y)
 
-  pub reached-exact : from < s .states → c ≤ k → (q : ℕ) → q < s .states → (0 < number q) ↔ (reaches s from q ≡ true)
-  reached-exact lf all q lq = (sound, λ h. kept-along s Known known-step (reaches-view s from q .0 h .1) (lf, first-known) .1)
+  pub reached-exact : from < s .states → c ≤ k → (q : ℕ) → q < s .states → (0 < number q) ↔ Leads s from q
+  reached-exact lf all q lq = (sound, λ h. kept-along s Known known-step (h .1) (lf, first-known) .1)
     where
-      sound : 0 < number q → reaches s from q ≡ true
+      sound : 0 < number q → Leads s from q
       sound h =
           let e : queue (number q - 1) ≡ q = x .places .placed q lq h (x .low q lq) in
-          rw e at (path-reaches s (reached-path (number q) (number q - 1) (omega arith) (omega (arith, x .low q lq)) .1))
+          let r = reached-path (number q) (number q - 1) (omega arith) (omega (arith, x .low q lq)) in
+          (r .0, rw e at (r .1))
 
       first-known : 0 < number from
       first-known = omega (arith, ap number (x .first), x .places .numbered 0 (x .some))

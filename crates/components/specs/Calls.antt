@@ -1,7 +1,8 @@
 -- What the crate's calls promise, for all sizes and arrays. A prime marks an array's contents at exit.
 --     cellsFit n m t           n states and m letters are few enough, and t targets are enough for their cells
 --     componentsFit n m ..     a search for components can begin: sizes, targets, five entries for each state to work in, and room for the results
---     ComponentsFound n m ..   the smallest state of each state's component at the front of `out`, entries past the states untouched
+--     ComponentsFound n m ..   the smallest state of each state's component at the front of `out`, entries past the states untouched; and what these
+--                              numbers are, in terms of paths
 --     reachFits n m from t ..  a search from a state can begin: sizes, t targets, and the lengths of four arrays
 --     ReachFound n m from ..   exactly the states that `from` reaches are met, each with the place that it was met from and the letter;
 --                              entries past the states, and past those met, untouched
@@ -15,7 +16,7 @@ use lib.ListN.{length, take, drop}
 use Rattle.rules.specs.Basics.{pick, tabulate}
 use Rattle.rules.specs.Judges.{paritySystem}
 use Rattle.rules.specs.Says.{over}
-use Rattle.rules.specs.Systems.{System, Path, componentOf}
+use Rattle.rules.specs.Systems.{System, Path, componentOf, ComponentsAre}
 use Rattle.components.specs.Places.{at}
 use Rattle.components.specs.Searching.{doneNumber}
 use Rattle.components.specs.Reaches.{Reached, Untouched, ReachSays}
@@ -29,6 +30,7 @@ componentsFit n m targets work out = cellsFit n m (length targets) && (leb (5 * 
 pub record ComponentsFound (n m : ℕ) (targets work out out′ : List ℕ) (r : Bool) : Type 0 where
   pub answer : r ≡ componentsFit n m targets work out
   pub array : out′ ≡ pick r (over (tabulate n 0 (componentOf (paritySystem n m targets))) out) out
+  pub meaning : r ≡ true → ComponentsAre (paritySystem n m targets) (at out′)
 
 abbrev pub reachFits : ℕ → ℕ → ℕ → ℕ → ℕ → ℕ → ℕ → ℕ → Bool
 reachFits n m from t a b c d = cellsFit n m t && (leb m 256 && (ltb from n && (leb n a && (leb n b && (leb n c && leb n d)))))

@@ -1,5 +1,5 @@
 -- What the results of the public calls mean: the equalities of `Says` in terms of paths, reachable rows, orderings, missing and recurring transitions.
---     components-are, components-mean      the numbers of components, and an array that holds them
+--     components-are, components-over, components-mean     the numbers of components, and an array that holds them
 --     step-is                              what a row of a Rabin table does by a letter, whole
 --     translation-means                    the rows, their steps, their records and fullness
 --     judged-as                            the answer to a looped word, for any system and any condition
@@ -11,7 +11,7 @@ use mathlib.Core.List.{List}
 use Prim.Native.Nat.{ℕ, zero, suc, _<_, _≤_}
 use native.Mathlib.Omega.{arith}
 use lib.ListN.{length, getD}
-use Rattle.rules.specs.Basics.{pick, firstOf, when}
+use Rattle.rules.specs.Basics.{pick, firstOf, when, tabulate}
 use Rattle.rules.specs.Refusals as Refusal
 use Rattle.rules.specs.Systems.{System, componentOf, ComponentsAre}
 use Rattle.rules.specs.Runs.{Taken, strayLetter, settled, recurring, MeetsMissing}
@@ -20,7 +20,7 @@ use Rattle.rules.specs.Rows.{Row}
 use Rattle.rules.specs.Tables.{Table, tableOf, tableFault, systemOf, marksOf, recordKeeper, tablePlan, StepIs}
 use Rattle.rules.specs.Judges.{satisfies, paritySystem, parityGood}
 use Rattle.rules.specs.Claims.{exceeds}
-use Rattle.rules.specs.Says.{componentsFault, areShort, translateFault, ComponentsSay, ComponentsMean, TranslateSays, TranslationMeans, RowArrays, RabinSays, RabinMeans, ParitySays, ParityMeans}
+use Rattle.rules.specs.Says.{over, componentsFault, areShort, translateFault, ComponentsSay, ComponentsMean, TranslateSays, TranslationMeans, RowArrays, RabinSays, RabinMeans, ParitySays, ParityMeans}
 use Rattle.rules.proofs.Bools.{by}
 use Rattle.rules.proofs.Reach.{together-view, component-together, component-least, component-same}
 use Rattle.rules.proofs.Runs.{stops-view, recurs-view}
@@ -52,11 +52,16 @@ components-alike s f g same x =
       smallest = λ p q lp lq. rw (same p lp, same q lq) (x .smallest p q lp lq);
     }
 
+-- an array that begins with the numbers of the components
+pub components-over : (s : System) (o : List ℕ) → ComponentsAre s (λ q. getD (over (tabulate (s .states) 0 (componentOf s)) o) q 0)
+components-over s o =
+    components-alike s (componentOf s) (λ q. getD (over (tabulate (s .states) 0 (componentOf s)) o) q 0)
+    (λ q l. over-at (componentOf s) (s .states) o q l) (components-are s)
+
 pub components-mean : (bs o o′ : List ℕ) (r : ℕ) → ComponentsSay bs o o′ r → ComponentsMean bs o′ r
 components-mean bs o o′ r says z =
-    let s = systemOf (tableOf bs) in
     let none : componentsFault bs (length o) ≡ 0 = sym (says .number) ∙ z in
-    components-alike s (componentOf s) (λ q. getD o′ q 0) (λ q l. rw (says .array, none) (over-at (componentOf s) (tableOf bs .states) o q l)) (components-are s)
+    rw (says .array, none) (components-over (systemOf (tableOf bs)) o)
 
 -- ---- translations
 module _ (t : Table) (r : Row (List ℕ)) (a : ℕ) where

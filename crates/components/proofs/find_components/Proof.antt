@@ -2,13 +2,14 @@
 -- open, and the states below q have their component.
 use borrow.Author.Needs.{needs}
 use mathlib.Core.Path.{_≡_, refl, sym, _∙_}
-use mathlib.Core.Bool.{true}
+use mathlib.Core.Bool.{true, false≢true}
 use Prim.Native.Nat.{ℕ, _-_, _<_, _≤_}
 use native.Mathlib.Omega.{arith}
 use lib.ListN.{length}
 use borrow.Author.Tests.{not-true, not-false}
 use Rattle.rules.specs.Judges.{paritySystem}
 use Rattle.rules.proofs.Filling.{filled-over}
+use Rattle.rules.proofs.Meanings.{components-over}
 use Rattle.components.specs.Places.{at}
 use Rattle.components.specs.Searching.{numbersIn, Room}
 use Rattle.components.specs.Calls.{componentsFit}
@@ -41,7 +42,7 @@ module _ (c : tie.Else1 Inv-loop μ-loop) where
 returns : tie.Need-returns Inv-loop μ-loop
 returns c =
     let a = c .before .before .before .before .before .args in
-    record { answer = sym (not-true _ (c .if1 .taken)) ∙ components-tested (a .states) (a .letters) (a .targets .now) (a .work .now) (a .out .now) _ (c .before .cells-fit .ensures); array = refl }
+    record { answer = sym (not-true _ (c .if1 .taken)) ∙ components-tested (a .states) (a .letters) (a .targets .now) (a .work .now) (a .out .now) _ (c .before .cells-fit .ensures); array = refl; meaning = λ e. absurd (false≢true e) }
 
 loop-holds : tie.Need-loop-holds Inv-loop μ-loop
 loop-holds c =
@@ -67,9 +68,13 @@ loop-again c =
 returns-2 : tie.Need-returns-2 Inv-loop μ-loop
 returns-2 c =
     let t = c .before .loop .inv in
+    let e = c .before .before .before .before .before .before in
+    let a = start e .args in
+    let filled = filled-over _ _ _ _ (room e .1) (record { size = t .1 .out-size; done = λ i l. all-found _ _ _ (t .1 .now) i l (t .2 i (omega (arith, c .loop-test .left))); rest = t .1 .rest }) in
     record {
-      answer = sym (fit (c .before .before .before .before .before .before));
-      array = filled-over _ _ _ _ (room (c .before .before .before .before .before .before) .1) (record { size = t .1 .out-size; done = λ i l. all-found _ _ _ (t .1 .now) i l (t .2 i (omega (arith, c .loop-test .left))); rest = t .1 .rest });
+      answer = sym (fit e);
+      array = filled;
+      meaning = λ z. rw filled (components-over (paritySystem (a .states) (a .letters) (a .targets .now)) (a .out .now));
     }
 
 pub find-components-spec : {M : Type 1} → statement M
