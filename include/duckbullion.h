@@ -86,7 +86,7 @@ enum {
 
 /* A judge's answer to a looped word. */
 typedef struct duckbullion_answer {
-    uint32_t word;
+    uint32_t kind;
     uint32_t value;
 } duckbullion_answer;
 

@@ -432,7 +432,7 @@ pub fn list_table(
 
 /// Reads a judge's answer: word 0 accepts, 1 rejects, 2 stops, 3 refused.
 fn judged(answer: Answer) -> Judged {
-    match answer.word {
+    match answer.kind {
         0 => Judged::Accepts,
         1 => Judged::Rejects,
         2 => Judged::Stops(answer.value),

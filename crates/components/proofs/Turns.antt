@@ -3,7 +3,7 @@
 --     turn-read          all letters of a state are read
 --     turn-entered       a letter leads to a state that is not yet met
 --     quiet-below        nothing waits beyond what waits last
---     turn-settled       the last part is a component
+--     turn-closed       the last part is a component
 --     room-kept          arrays that keep their lengths have room
 --     Underway, underway-none, underway-more     a search since its arrays were as given
 --     searched-none, searched-root, searched-empty, all-found     how a search begins and ends
@@ -20,7 +20,7 @@ use Rattle.components.specs.Places.{at, part, Put}
 use Rattle.components.specs.Searching.{doneNumber, numbersIn, stackIn, startsIn, waitingIn, nextIn, Letters, Searched, SearchedIn, Read, Scanned, Entered, Closed, Room, TurnSays}
 use Rattle.rules.proofs.Reaching.{reaches-trans, reaches-step}
 use Rattle.components.proofs.Stores.{put-set, part-at, part-length, part-here, part-other, part-behind}
-use Rattle.components.proofs.Searches.{same-or, parts-few, waiting-few, back, starts-below, read-more, enter, leave, grown, settle}
+use Rattle.components.proofs.Searches.{same-or, parts-few, waiting-few, back, starts-below, part-read, enter, leave, grown, finish}
 use Rattle.components.proofs.Loops.{read-all}
 
 -- the next letter of a state is stored
@@ -80,7 +80,7 @@ module _ (s : System) (c p l q : ℕ) (targets work outs : List ℕ) (room : Roo
       pub turn-read : s .letters ≤ b → TurnSays s c p l c r (l - 1) work (set work (4 * s .states + q) (s .letters)) outs outs
       turn-read h =
           let put = put-next (s .letters) in
-          let z = read-more s c p l number stack start waiting (at next) (at outs) y q q-state (omega arith) q-number (at (set next q (s .letters))) (s .letters) r put (read-all s number start q (at next q) p b r (sc .read) h) (λ k g lk. last-part k lk) in
+          let z = part-read s c p l number stack start waiting (at next) (at outs) y q q-state (omega arith) q-number (at (set next q (s .letters))) (s .letters) r put (read-all s number start q (at next q) p b r (sc .read) h) (λ k g lk. last-part k lk) in
           let e = next-kept s q (s .letters) work 0 (omega arith) in
           record {
             after = next-stored s q (s .letters) work c r (l - 1) outs q-state (leave s c r l number stack start waiting (at (set next q (s .letters))) (at outs) z (rw (is-last, put .here) (omega arith)));
@@ -115,7 +115,7 @@ module _ (s : System) (c p l q : ℕ) (targets work outs : List ℕ) (room : Roo
         put₂ = let o = put-next (b + 1) in record { here = o .here; others = λ j d. o .others j d ∙ sym (put-next b .others j d) }
 
         joined : Searched s c r l number stack start waiting next₁ (at outs)
-        joined = read-more s c p l number stack start waiting (at next) (at outs) y q q-state (omega arith) q-number next₁ b r (put-next b) (sc .read) (λ k g lk. last-part k lk)
+        joined = part-read s c p l number stack start waiting (at next) (at outs) y q q-state (omega arith) q-number next₁ b r (put-next b) (sc .read) (λ k g lk. last-part k lk)
 
         -- the last open state leads to the new one
         led : (i : ℕ) → suc i ≡ c → reaches s (stack i) w ≡ true
@@ -146,7 +146,7 @@ module _ (s : System) (c p l q : ℕ) (targets work outs : List ℕ) (room : Roo
             }
 
         all-read : Searched s (suc c) (suc r) (suc l) number′ stack′ start′ waiting′ next₂ (at outs)
-        all-read = read-more s (suc c) (suc r) (suc l) number′ stack′ start′ waiting′ next₁ (at outs) entered q q-state (omega (arith, q-same)) (omega (arith, q-same, q-number)) next₂ (b + 1) (suc r) put₂ one-read (λ k g lk. absurd (omega arith))
+        all-read = part-read s (suc c) (suc r) (suc l) number′ stack′ start′ waiting′ next₁ (at outs) entered q q-state (omega (arith, q-same)) (omega (arith, q-same, q-number)) next₂ (b + 1) (suc r) put₂ one-read (λ k g lk. absurd (omega arith))
 
         pub turn-entered : TurnSays s c p l (c + 1) (r + 1) (l + 1) work (set work′ (4 * s .states + q) (b + 1)) outs outs
         turn-entered =
@@ -168,16 +168,16 @@ module _ (s : System) (c p l : ℕ) (targets work work′ outs outs′ : List �
     whole : Searched s c (suc (p - 1)) l (at (numbersIn (s .states) work)) (at (stackIn (s .states) work)) (at (startsIn (s .states) work)) (at (waitingIn (s .states) work)) (at (nextIn (s .states) work)) (at outs)
     whole = let e : suc (p - 1) ≡ p = omega arith in rw e (x .searched)
 
-    pub turn-settled : (f : ℕ) → f ≡ from → Closed (s .states) f c work work′ outs outs′ → TurnSays s c p l f (p - 1) l work work′ outs outs′
-    turn-settled f e h = rw e (closed (rw e at h))
+    pub turn-closed : (f : ℕ) → f ≡ from → Closed (s .states) f c work work′ outs outs′ → TurnSays s c p l f (p - 1) l work work′ outs outs′
+    turn-closed f e h = rw e (closed (rw e at h))
       where
         closed : Closed (s .states) from c work work′ outs outs′ → TurnSays s c p l from (p - 1) l work work′ outs outs′
         closed h =
             let n = s .states in
-            let st = h .settled in
+            let st = h .named in
             let behind : (k : ℕ) → n ≤ k → part n k work′ ≡ part n k work = λ k h. part-behind n k work′ work (st .parts-kept) h in
             record {
-              after = record { searched = rw (behind n (omega arith), behind (2 * n) (omega arith), behind (3 * n) (omega arith), behind (4 * n) (omega arith)) (settle s c (p - 1) l _ _ _ _ _ _ whole (room .small) quiet (h .label) (h .smallest) (at (numbersIn n work′)) (at outs′) (st .number) (st .out) (st .number-others) (st .out-others)) };
+              after = record { searched = rw (behind n (omega arith), behind (2 * n) (omega arith), behind (3 * n) (omega arith), behind (4 * n) (omega arith)) (finish s c (p - 1) l _ _ _ _ _ _ whole (room .small) quiet (h .label) (h .smallest) (at (numbersIn n work′)) (at outs′) (st .number) (st .out) (st .number-others) (st .out-others)) };
               less = omega (arith, st .fewer);
               rest = λ i b. st .out-others i (λ j f u e. omega (arith, x .searched .places .state j u));
               met = λ q b z. omega (arith, grown s c (p - 1) l _ _ _ _ _ _ whole (room .small) quiet (h .label) (h .smallest) (at (numbersIn n work′)) (at outs′) (st .number) (st .out) (st .number-others) (st .out-others) q b);

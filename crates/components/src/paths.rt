@@ -1,6 +1,6 @@
 // A path-based search for components. The open states stand on a stack and fall into parts; each part shares a component and leads to
 // the next. A letter that leads back to an earlier part joins all parts from there on; a last part whose letters are all read is a
-// component. It takes time linear in the cells: each letter is read once, each state is opened and settled once, and each part is joined or settled once.
+// component. It takes time linear in the cells: each letter is read once, each state is opened once and its component named once, and each part is joined or settled once.
 // One array is lent to work in, for n states five times n entries: the states' numbers from 0 on, the stack from n, where each part starts
 // from 2 n, the states that wait from 3 n, and the states' next letters from 4 n.
 use crate::cells::target_at;
@@ -109,7 +109,7 @@ fn smallest(stack: &[u16], from: usize, to: usize) -> u16
 }
 
 // Gives the states at some places their component: the smallest of them names it.
-fn settle(n: usize, from: usize, to: usize, work: &mut [u16], outs: &mut [u16])
+fn name_component(n: usize, from: usize, to: usize, work: &mut [u16], outs: &mut [u16])
     requires { ⌜ (from < to) × (to ≤ n) × (5 * n ≤ length (now work)) × (n ≤ length (now outs)) × ((i : ℕ) → i < to → at (stackIn n (now work)) i < n) ⌝ }
     ensures { λ _. ⌜ Closed n from to (now (work .entry)) (now (work .exit)) (now (outs .entry)) (now (outs .exit)) ⌝ }
 {
@@ -183,7 +183,7 @@ fn turn(
         }
     }
     let from = start as usize;
-    settle(n, from, count, work, outs);
+    name_component(n, from, count, work, outs);
     Heights {
         open: from,
         parts: parts - 1,

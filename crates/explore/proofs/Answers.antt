@@ -19,7 +19,7 @@ use Rattle.rules.specs.Limits.{maxLetters, noRow}
 use Rattle.rules.specs.Rows.{Plan, rowsOf, targetNumber}
 use Rattle.rules.specs.Says.{areShort}
 use Rattle.rules.proofs.Bools.{by, or-none}
-use Rattle.rules.proofs.Refusals.{taken-arrays}
+use Rattle.rules.proofs.Refusals.{array-facts}
 use Rattle.rules.proofs.Sets.{none-at}
 use Rattle.explore.specs.declared.Task.{Task}
 use Rattle.explore.specs.declared.Explored.the-variants.{Rows, Full, Unfit}
@@ -32,7 +32,7 @@ use Rattle.explore.proofs.Rounds.{all-read, all-over}
 -- ---- what can be explored
 pub has-room : (m c : ℕ) (ts ps keys : List ℕ) → areShort c m (length ts) (length ps) (length keys) (length keys) ≡ false → Room m c ts ps keys
 has-room m c ts ps keys h =
-    let r = taken-arrays c m (length ts) (length ps) (length keys) (length keys) h in
+    let r = array-facts c m (length ts) (length ps) (length keys) (length keys) h in
     record { some-rows = r .some-rows; most-rows = r .most-rows; target-room = r .target-room; priority-room = r .priority-room; key-room = r .record-room }
 
 module _ (t : Task) (cells : List ℕ) (c : ℕ) (keys ts ps : List ℕ) where

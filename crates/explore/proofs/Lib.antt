@@ -1,7 +1,7 @@
 -- The laws that the proofs of the functions cite.
 pub mod Chains
 pub mod Alike
-pub mod Settling
+pub mod FilingLaws
 pub mod Steps
 pub mod Rounds
 pub mod Answers

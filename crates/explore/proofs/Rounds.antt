@@ -17,9 +17,9 @@ use lib.Seq.{getD-set-same, length-take-le, take-suc-set}
 use borrow.Author.Tests.{ltb-false, lt-ltb, le-ltb, leb-false, le-leb, lt-leb}
 use Rattle.rules.specs.Limits.{noRow}
 use Rattle.rules.specs.Systems.{cell}
-use Rattle.rules.specs.Rows.{Plan, Step, SameIsEqual, met, foundBy, foundFrom, rowsOf}
+use Rattle.rules.specs.Rows.{Plan, Step, SameIsEqual, rowsWith, foundBy, foundFrom, rowsOf}
 use Rattle.rules.proofs.Bools.{by, and-both}
-use Rattle.rules.proofs.Exploration.{met-longer, by-next, by-grows, from-on, from-stop}
+use Rattle.rules.proofs.Exploration.{with-longer, by-next, by-grows, from-on, from-stop}
 use Rattle.explore.specs.declared.Task.{Task}
 use Rattle.rules.specs.Arrays.{Beyond}
 use Rattle.explore.specs.Filing.{Filed}
@@ -84,8 +84,8 @@ module _ (t : Task) (cells : List ℕ) where
         record {
           letters = omega arith;
           known = λ h. let e : suc (cell m i a) ≡ cell m i (a + 1) = omega arith in rw e at (step-known t cells closed c r i a keys₁ ts₁ ps₁ lr la k keys₂ ts₂ ps₂ r′ s h);
-          rows = λ h. step-rows t cells closed c r i a keys₁ ts₁ ps₁ lr la k keys₂ ts₂ ps₂ r′ s h ∙ met-next;
-          over = λ h. rw (← met-next, ← count) h;
+          rows = λ h. step-rows t cells closed c r i a keys₁ ts₁ ps₁ lr la k keys₂ ts₂ ps₂ r′ s h ∙ with-next;
+          over = λ h. rw (← with-next, ← count) h;
           longer = omega (arith, grown, f .longer);
           most = omega (arith, step-most t cells closed c r i a keys₁ ts₁ ps₁ lr la k keys₂ ts₂ ps₂ r′ s, f .most);
           front = λ h. step-front t cells closed c r i a keys₁ ts₁ ps₁ lr la k keys₂ ts₂ ps₂ r′ s h i lr ∙ f .front few;
@@ -107,15 +107,15 @@ module _ (t : Task) (cells : List ℕ) where
         within : cell m i a < suc i * m
         within = omega (arith, suc-mul i m)
 
-        count : r′ ≡ length (met g (take r keys₁) (getD keys₁ i 0) a)
+        count : r′ ≡ length (rowsWith g (take r keys₁) (getD keys₁ i 0) a)
         count = step-count t cells closed c r i a keys₁ ts₁ ps₁ lr la k keys₂ ts₂ ps₂ r′ s
 
         grown : r ≤ r′
         grown =
-            omega (arith, count, length-take-le r keys₁ (omega (arith, k .filed .few, k .filed .key-room)), met-longer g law (take r keys₁) (getD keys₁ i 0) a)
+            omega (arith, count, length-take-le r keys₁ (omega (arith, k .filed .few, k .filed .key-room)), with-longer g law (take r keys₁) (getD keys₁ i 0) a)
 
-        met-next : met g (take r keys₁) (getD keys₁ i 0) a ≡ foundBy (a + 1) 0 g v rs
-        met-next =
+        with-next : rowsWith g (take r keys₁) (getD keys₁ i 0) a ≡ foundBy (a + 1) 0 g v rs
+        with-next =
             let e : 0 + a ≡ a = omega arith in
             rw (f .front few, f .rows few, add-one) (sym (by-next g law a 0 v rs ∙ rw e))
 

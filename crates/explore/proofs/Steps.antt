@@ -4,7 +4,7 @@
 --     step-here            the step of a cell, by its word and the effect of its marks
 --     row-fits, cell-fits  the cells of a key that fits
 --     step-fits            a step leads to keys that fit
---     read-missing, read-there     a cell has been read whose transition is missing, or is there and its key is settled
+--     read-missing, read-there     a cell has been read whose transition is missing, or is there and its key is filed
 --     step-count, step-most, step-rest, step-rows, step-front, step-known     how many rows there are then, at most one more, what stays behind
 --                          them, which they are, that those known before stay, and what is known
 use mathlib.Core.Path.{_≡_, refl, sym, ap, _∙_}
@@ -20,7 +20,7 @@ use borrow.Author.Tests.{eqb-true, eq-eqb, ltb-true, ltb-false, leb-false, le-le
 use Rattle.rules.specs.Basics.{pick}
 use Rattle.rules.specs.Limits.{noRow}
 use Rattle.rules.specs.Systems.{cell}
-use Rattle.rules.specs.Rows.{Step, Plan, SameIsEqual, rowAt, met, targetNumber, Read}
+use Rattle.rules.specs.Rows.{Step, Plan, SameIsEqual, rowAt, rowsWith, targetNumber, Read}
 use Rattle.rules.proofs.Bools.{by, clash, and-both}
 use Rattle.rules.proofs.Arrays.{getD-any, row-ends}
 use Rattle.explore.specs.declared.Task.{Task}
@@ -29,9 +29,9 @@ use Rattle.explore.specs.Index.{numberAmong}
 use Rattle.explore.specs.Cells.{span, keyOf, sourceIn, memoryIn, crossingKind, insideKind, targetIn, marksIn, stateIn, strays, stepIn}
 use Rattle.explore.specs.Effects.{effectBy, keyed, keyStep, keyPlan}
 use Rattle.explore.specs.Exploring.{statesIn, Fits, Closed, StepRead, Known, lent}
-use Rattle.explore.specs.Filing.{Filed, rowsAfter, Settles}
+use Rattle.explore.specs.Filing.{Filed, rowsAfter, Files}
 use Rattle.rules.proofs.Filling.{beyond-none, beyond-set}
-use Rattle.rules.proofs.Reading.{met-missing, met-there, target-there, step-found, read-more}
+use Rattle.rules.proofs.Reading.{with-missing, with-there, target-there, step-found, cell-read}
 
 pub keyed-same : (m first : ℕ) (step : ℕ → ℕ → Step ℕ) → SameIsEqual (keyed m first step)
 keyed-same m first step = record { equal = λ x y e. eqb-true x y e; self = λ x. eq-eqb x x refl }
@@ -100,7 +100,7 @@ module _ (t : Task) (cells : List ℕ) (closed : Closed t cells) where
     rs = take n keys
 
     abbrev more : List ℕ
-    more = met g rs v a
+    more = rowsWith g rs v a
 
     abbrev number : ℕ
     number = numberAmong (x .to) n keys
@@ -117,8 +117,8 @@ module _ (t : Task) (cells : List ℕ) (closed : Closed t cells) where
     within : p < c * m
     within = omega (arith, row-ends c m i (omega (arith, k .filed .few)))
 
-    met-is : more ≡ pick (x .there) (pick (eqb number n) (rs ++ (x .to ∷ [])) rs) rs
-    met-is = by (x .there) (λ e. met-there g law rs v a number e refl ∙ rw (e, rows-many)) (λ e. met-missing g law rs v a e ∙ rw e)
+    with-is : more ≡ pick (x .there) (pick (eqb number n) (rs ++ (x .to ∷ [])) rs) rs
+    with-is = by (x .there) (λ e. with-there g law rs v a number e refl ∙ rw (e, rows-many)) (λ e. with-missing g law rs v a e ∙ rw e)
 
     target-is : pick (x .there) number noRow ≡ targetNumber g noRow more v a
     target-is = by (x .there) (λ e. ap (λ (b : Bool). pick b number noRow) e ∙ sym (step-found g law rs v a e .0) ∙ sym (target-there g noRow more v a e)) (λ e. rw e)
@@ -129,8 +129,8 @@ module _ (t : Task) (cells : List ℕ) (closed : Closed t cells) where
       by-outcome f h =
           by
           (x .there)
-          (λ e. by (eqb number n) (λ d. f e (s .count ∙ rw (e, d)) (λ q. s .key-array q ∙ rw (e, d)) (met-is ∙ rw (e, d))) (λ d. h (s .count ∙ rw (e, d)) (λ q. s .key-array q ∙ rw (e, d)) (met-is ∙ rw (e, d))))
-          (λ e. h (s .count ∙ rw e) (λ q. s .key-array q ∙ rw e) (met-is ∙ rw e))
+          (λ e. by (eqb number n) (λ d. f e (s .count ∙ rw (e, d)) (λ q. s .key-array q ∙ rw (e, d)) (with-is ∙ rw (e, d))) (λ d. h (s .count ∙ rw (e, d)) (λ q. s .key-array q ∙ rw (e, d)) (with-is ∙ rw (e, d))))
+          (λ e. h (s .count ∙ rw e) (λ q. s .key-array q ∙ rw e) (with-is ∙ rw e))
 
       pub step-count : r ≡ length more
       step-count =
@@ -168,7 +168,7 @@ module _ (t : Task) (cells : List ℕ) (closed : Closed t cells) where
       cells-read =
           rw
           (s .target-array, s .priority-array)
-          (rw row-is at (read-more g law noRow rs i a p ts ps (k .read) refl (omega (arith, rows-many)) la (pick (x .there) number noRow) (x .prio) (omega (arith, within, k .target-room)) (omega (arith, within, k .priority-room)) (rw row-is target-is) (rw row-is)))
+          (rw row-is at (cell-read g law noRow rs i a p ts ps (k .read) refl (omega (arith, rows-many)) la (pick (x .there) number noRow) (x .prio) (omega (arith, within, k .target-room)) (omega (arith, within, k .priority-room)) (rw row-is target-is) (rw row-is)))
 
       pub step-known : r ≤ c → Known t cells c r (suc p) (lent keys′ ts′ ps′)
       step-known q =
@@ -199,7 +199,7 @@ module _ (w e c n p : ℕ) (keys ts ps : List ℕ) where
   step-there f = by (ltb w insideKind) (λ h. rw (f, h)) (λ h. rw (f, h))
 
   pub read-there : (key prio number r : ℕ) (keys′ : List ℕ) → ltb w crossingKind ≡ false → key ≡ stepIn w e .to → prio ≡ stepIn w e .prio
-      → Settles c key n keys keys′ number → r ≡ rowsAfter n number
+      → Files c key n keys keys′ number → r ≡ rowsAfter n number
       → StepRead (stepIn w e) c n p (lent keys ts ps) (lent keys′ (set ts p number) (set ps p prio)) r
   read-there key prio number r keys′ f k q s z =
       let t = step-there f in

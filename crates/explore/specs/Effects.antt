@@ -14,7 +14,7 @@ use lib.ListN.{getD}
 use Rattle.rules.specs.Systems.{cell}
 use Rattle.rules.specs.Records.{asTheyStood, moved, priority}
 use Rattle.rules.specs.Rows.{Step, Plan}
-use Rattle.records.specs.Words.{isMarked, marksIn as marksOf, packed, places}
+use Rattle.records.specs.Packed.{isMarked, marksIn as marksOf, packed, places}
 use Rattle.explore.specs.declared.Rule.{Rule}
 use Rattle.explore.specs.declared.Rule.the-variants.{Pairs}
 use Rattle.explore.specs.declared.Task.{Task}

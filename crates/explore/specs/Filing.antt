@@ -1,7 +1,7 @@
 -- Keys that are filed, and their index.
 --     Filed c n keys               n keys of at most c are filed, each once
 --     rowsAfter n r                how many keys are filed when the one of number r has been looked up among n
---     Settles c key n .. r         a prime marks an array's contents at exit: r is the key's number, and it has been filed if it was absent and there was room
+--     Files c key n .. r         a prime marks an array's contents at exit: r is the key's number, and it has been filed if it was absent and there was room
 use mathlib.Core.Path.{_≡_}
 use mathlib.Core.List.{List}
 use Prim.Native.Nat.{ℕ, suc, _<_, _≤_}
@@ -21,7 +21,7 @@ pub record Filed (c n : ℕ) (keys : List ℕ) : Type 0 where
 abbrev pub rowsAfter : ℕ → ℕ → ℕ
 rowsAfter n r = pick (eqb r n) (suc n) n
 
-pub record Settles (c key n : ℕ) (keys keys′ : List ℕ) (r : ℕ) : Type 0 where
+pub record Files (c key n : ℕ) (keys keys′ : List ℕ) (r : ℕ) : Type 0 where
   pub number : r ≡ numberAmong key n keys
   pub filed : rowsAfter n r ≤ c → Filed c (rowsAfter n r) keys′
   pub key-array : rowsAfter n r ≤ c → keys′ ≡ pick (eqb r n) (set keys n key) keys

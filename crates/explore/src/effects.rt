@@ -15,12 +15,12 @@ fn effect_by_pairs(memory: u32, marks: u32) -> u32
     requires { ⌜ (memory < span) × (marks < 65536) ⌝ }
     ensures { λ r. ⌜ IsEffect Pairs memory marks r ⌝ }
 {
-    let order = Record { word: memory };
+    let order = Record { code: memory };
     let prohibited = (marks % 256) as u8;
     let required = (marks / 256) as u8;
     let next = order.moved(prohibited);
     let priority = order.priority(prohibited, required);
-    SPAN * priority as u32 + next.word
+    SPAN * priority as u32 + next.code
 }
 
 // 0 where all cells of a row have the same marks, so that one effect serves for all letters; else 1.

@@ -6,7 +6,7 @@ use crate::codes::SPAN;
 use crate::codes::key_of;
 use crate::effects::write_effects;
 use crate::filing::rows_after;
-use crate::filing::settle;
+use crate::filing::file_key;
 use crate::index::index_keys;
 use rules::limit::MAX_LETTERS;
 use rules::limit::MAX_ROWS;
@@ -81,7 +81,7 @@ fn read_cell(
         priorities[p] = 0;
         return n;
     }
-    let number = settle(next_key(code, effect), n, capacity, keys, heads, links);
+    let number = file_key(next_key(code, effect), n, capacity, keys, heads, links);
     targets[p] = number as u16;
     priorities[p] = priority_of(code, effect);
     rows_after(n, number)

@@ -16,7 +16,7 @@ use Rattle.rules.specs.Says.{RestSays}
 use Rattle.exported.specs.declared.Answer.{Answer}
 
 abbrev pub answered : Answer → Rules.Answer
-answered r = record { word = r .word; value = r .value }
+answered r = record { kind = r .kind; value = r .value }
 
 abbrev pub restPiece : List ℕ → ℕ → ℕ
 restPiece lead i = pick (ltb i (length lead)) 0 1

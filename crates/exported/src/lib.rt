@@ -24,7 +24,7 @@ ghost use Rattle.exported.specs.Results.{answered, RestLies};
 // A judge's answer by document 01's number and value: 0 accepts, 1 rejects, 2 stops with the letters read, 3 refused with the number.
 #[repr(C)]
 pub struct Answer {
-    pub word: u32,
+    pub kind: u32,
     pub value: u32,
 }
 
@@ -143,14 +143,14 @@ fn answer_of(judged: Judged) -> Answer
     ensures { λ r. ⌜ answered r ≡ answerOf judged ⌝ }
 {
     match judged {
-        Judged::Accepts => Answer { word: 0, value: 0 },
-        Judged::Rejects => Answer { word: 1, value: 0 },
+        Judged::Accepts => Answer { kind: 0, value: 0 },
+        Judged::Rejects => Answer { kind: 1, value: 0 },
         Judged::Stops(read) => Answer {
-            word: 2,
+            kind: 2,
             value: read,
         },
         Judged::Refused(number) => Answer {
-            word: 3,
+            kind: 3,
             value: number as u32,
         },
     }

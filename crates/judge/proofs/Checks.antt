@@ -1,5 +1,5 @@
 -- The checks before a judgement, and the refusals that they give.
---     first-met, first-same             a refusal that is met is the first; refusals by equal numbers
+--     first-given, first-same             a refusal that is met is the first; refusals by equal numbers
 --     refused-given                     a refusal that is met is the answer
 --     byte-letters                      over more letters than a byte can say the table is refused, whatever the word is
 --     parity-tests                      the refusal of a parity table by its tests: of the sizes, of the arrays' lengths, of the targets
@@ -18,16 +18,16 @@ use borrow.Author.Tests.{eqb-true, eqb-false, ltb-false}
 use Rattle.rules.specs.Basics.{firstOf, when}
 use Rattle.rules.specs.Limits.{maxLetters, maxRows, noRow}
 use Rattle.rules.specs.Refusals as Refusal
-use Rattle.rules.specs.Tables.{targetFault}
+use Rattle.rules.specs.Tables.{badTargets}
 use Rattle.rules.specs.Answers.{Answer, refused, unlessRefused}
 use Rattle.rules.specs.Judges.{wordFault, parityFault}
 use Rattle.rules.proofs.Bools.{by, or-none}
-use Rattle.rules.proofs.Refusals.{in-range, taken-parity}
+use Rattle.rules.proofs.Refusals.{in-range, parity-facts}
 
 -- ---- refusals
-pub first-met : (a b : ℕ) → (a ≡ 0 → ⊥) → a ≡ firstOf a b
-first-met zero b d = absurd (d refl)
-first-met (suc a) b d = refl
+pub first-given : (a b : ℕ) → (a ≡ 0 → ⊥) → a ≡ firstOf a b
+first-given zero b d = absurd (d refl)
+first-given (suc a) b d = refl
 
 pub first-same : {a a′ b b′ : ℕ} → a ≡ a′ → b ≡ b′ → firstOf a b ≡ firstOf a′ b′
 first-same e f = rw (e, f)
@@ -42,15 +42,15 @@ pub byte-letters : (n m : ℕ) (ts ps lead l : List ℕ)
 byte-letters n m ts ps lead l =
     by
     (eqb (parityFault n m ts ps) 0)
-    (λ e. let few : min m 255 ≡ m = omega (arith, taken-parity n m ts ps (eqb-true (parityFault n m ts ps) 0 e) .most-letters) in rw few)
-    (λ e. let met = eqb-false (parityFault n m ts ps) 0 e in sym (first-met (parityFault n m ts ps) (wordFault (min m 255) lead l) met) ∙ first-met (parityFault n m ts ps) (wordFault m lead l) met)
+    (λ e. let few : min m 255 ≡ m = omega (arith, parity-facts n m ts ps (eqb-true (parityFault n m ts ps) 0 e) .most-letters) in rw few)
+    (λ e. let met = eqb-false (parityFault n m ts ps) 0 e in sym (first-given (parityFault n m ts ps) (wordFault (min m 255) lead l) met) ∙ first-given (parityFault n m ts ps) (wordFault m lead l) met)
 
 -- ---- the tests of a parity table
 abbrev sizesOut : ℕ → ℕ → Bool
 sizesOut n m = eqb n 0 || (ltb maxRows n || (eqb m 0 || ltb maxLetters m))
 
 pub parity-tests : (n m : ℕ) (ts ps : List ℕ)
-    → parityFault n m ts ps ≡ when (sizesOut n m || ((ltb (length ts) (n * m) || ltb (length ps) (n * m)) || targetFault n noRow (take (n * m) ts))) Refusal.parity
+    → parityFault n m ts ps ≡ when (sizesOut n m || ((ltb (length ts) (n * m) || ltb (length ps) (n * m)) || badTargets n noRow (take (n * m) ts))) Refusal.parity
 parity-tests n m ts ps = simp or-assoc
 
 pub within-limits : (n m : ℕ) → sizesOut n m ≡ false → (n ≤ maxRows) × (n * m ≤ maxRows * maxLetters)

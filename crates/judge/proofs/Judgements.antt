@@ -1,5 +1,5 @@
 -- The judges' answers by document 01's numbers and values.
---     judges-agree    where a parity table agrees with a Rabin table, both judges' answers are equal
+--     answers-agree    where a parity table agrees with a Rabin table, both judges' answers are equal
 use mathlib.Core.Path.{_≡_, refl, sym, ap, _∙_}
 use mathlib.Core.List.{List}
 use Prim.Native.Nat.{ℕ}
@@ -15,7 +15,7 @@ use Rattle.judge.specs.declared.Judged.the-variants.{Accepts, Rejects, S
 
 -- the answer of a number and a value
 abbrev judgedOf : Answer → Judged
-judgedOf x = pick (eqb (x .word) 0) Accepts (pick (eqb (x .word) 1) Rejects (pick (eqb (x .word) 2) (Stops (x .value)) (Refused (x .value))))
+judgedOf x = pick (eqb (x .kind) 0) Accepts (pick (eqb (x .kind) 1) Rejects (pick (eqb (x .kind) 2) (Stops (x .value)) (Refused (x .value))))
 
 read-back : (j : Judged) → judgedOf (answerOf j) ≡ j
 read-back Accepts = refl
@@ -27,6 +27,6 @@ read-back (Refused n) = refl
 same-answer : (a b : Judged) → answerOf a ≡ answerOf b → a ≡ b
 same-answer a b e = sym (read-back a) ∙ ap judgedOf e ∙ read-back b
 
-pub judges-agree : (bs : List ℕ) (n : ℕ) (ts ps ss lead l : List ℕ) (x y : Judged) → Agrees bs n ts ps ss → RabinSays bs lead l (answerOf x)
+pub answers-agree : (bs : List ℕ) (n : ℕ) (ts ps ss lead l : List ℕ) (x y : Judged) → Agrees bs n ts ps ss → RabinSays bs lead l (answerOf x)
     → ParitySays n (tableOf bs .letters) ts ps lead l (answerOf y) → y ≡ x
-judges-agree bs n ts ps ss lead l x y agrees rabin parity = same-answer y x (parity ∙ agrees .judges lead l ∙ sym rabin)
+answers-agree bs n ts ps ss lead l x y agrees rabin parity = same-answer y x (parity ∙ agrees .judges lead l ∙ sym rabin)

@@ -1,9 +1,9 @@
 -- A word that is read pass by pass, over any transition system.
 --     misses-judged               the answer where the lead-in meets a missing transition
---     underway-entry, underway-next, underway-noted     the lead-in is read; one pass more, and what it meets
+--     underway-entry, underway-next, underway-kept     the lead-in is read; one pass more, and what it meets
 --     underway-state, underway-count, underway-early     what holds of a word that is being read, and as long as a pass begins at a new place
 --     underway-misses             the answer where a pass meets a missing transition
---     round-earlier, round-judged, round-met     the next pass begins where an earlier one began: that one, the answer, what the
+--     round-earlier, round-judged, round-sums     the next pass begins where an earlier one began: that one, the answer, what the
 --                                 recurring transitions meet
 use mathlib.Core.Path.{_≡_, refl, sym, ap, _∙_, subst⁻¹}
 use mathlib.Core.Bool.{Bool, false}
@@ -25,7 +25,7 @@ use Rattle.rules.proofs.Pigeonhole.{pigeonhole}
 use Rattle.rules.proofs.Sets.{any-append}
 use Rattle.rules.proofs.Runs.{path-end, pass-append, turns-below}
 use Rattle.rules.proofs.Judging.{judged-lead, judged-pass, judged-round}
-use Rattle.judge.specs.Passes.{Met, MissesAfter, Blank, Begun, Noted, Underway}
+use Rattle.judge.specs.Passes.{SumsUp, MissesAfter, Blank, Begun, SumsKept, Underway}
 
 module _ (s : System) (l : List ℕ) (e : ℕ) where
   begun-none : (n : ℕ) (begun : List ℕ) → Blank n begun → Begun s l e 0 e begun
@@ -85,19 +85,19 @@ module _ (s : System) (l : List ℕ) (e : ℕ) where
 
   module _ (t : ℕ → ℕ → Bool) (g : Taken → ℕ) where
     -- what one pass more meets
-    noted-next : (r p v : ℕ) (vs : List ℕ) → turn s l r e ≡ p → r < length vs → Met t g (passFrom s p l) v → Noted s l e t g r vs → Noted s l e t g (r + 1) (set vs r v)
-    noted-next r p v vs at within h n i k =
+    kept-next : (r p v : ℕ) (vs : List ℕ) → turn s l r e ≡ p → r < length vs → SumsUp t g (passFrom s p l) v → SumsKept s l e t g r vs → SumsKept s l e t g (r + 1) (set vs r v)
+    kept-next r p v vs at within h n i k =
         by
         (eqb i r)
         (λ f. rw (eqb-true i r f, getD-set-same vs r v 0 within, at) h)
         (λ f. rw (getD-set-other vs r i v 0 (eqb-false i r f)) (n i (omega (arith, eqb-false i r f))))
 
     -- what some passes on end meet
-    noted-window : (r : ℕ) (vs : List ℕ) → r ≤ length vs → Noted s l e t g r vs → (d i : ℕ) → i + d ≤ r → (k : ℕ)
+    kept-window : (r : ℕ) (vs : List ℕ) → r ≤ length vs → SumsKept s l e t g r vs → (d i : ℕ) → i + d ≤ r → (k : ℕ)
         → any (t k) (take d (drop i vs)) ≡ any (λ x. t k (g x)) (passFrom s (turn s l i e) (repeated d l))
-    noted-window r vs enough n zero i within k = refl
-    noted-window r vs enough n (suc d) i within k =
-        rw (drop-cons vs i 0 (omega arith), n i (omega arith) k, noted-window r vs enough n d (suc i) (omega arith) k)
+    kept-window r vs enough n zero i within k = refl
+    kept-window r vs enough n (suc d) i within k =
+        rw (drop-cons vs i 0 (omega arith), n i (omega arith) k, kept-window r vs enough n d (suc i) (omega arith) k)
         (sym (ap (any (λ x. t k (g x))) (pass-append s l (repeated d l) (turn s l i e)) ∙ any-append (λ x. t k (g x)) (passFrom s (turn s l i e) l) (passFrom s (turn s l (suc i) e) (repeated d l))))
 
 module _ (s : System) (q : ℕ) (lead l : List ℕ) where
@@ -144,9 +144,9 @@ module _ {s : System} {q : ℕ} {lead l : List ℕ} {e r p count first : ℕ} {b
           room = rw (length-set begun p v) (u .room);
         }
 
-    pub underway-noted : (t : ℕ → ℕ → Bool) (g : Taken → ℕ) (v : ℕ) (vs : List ℕ) → s .states ≤ length vs → Met t g (passFrom s p l) v → Noted s l e t g r vs
-        → Noted s l e t g (r + 1) (set vs r v)
-    underway-noted t g v vs enough = noted-next s l e t g r p v vs (u .passes .here) (omega (arith, underway-early))
+    pub underway-kept : (t : ℕ → ℕ → Bool) (g : Taken → ℕ) (v : ℕ) (vs : List ℕ) → s .states ≤ length vs → SumsUp t g (passFrom s p l) v → SumsKept s l e t g r vs
+        → SumsKept s l e t g (r + 1) (set vs r v)
+    underway-kept t g v vs enough = kept-next s l e t g r p v vs (u .passes .here) (omega (arith, underway-early))
 
   pub underway-misses : (good : List Taken → Bool) → q < s .states → strayLetter (s .letters) lead ≡ false → strayLetter (s .letters) l ≡ false → (n : ℕ) → MissesAfter s p l n
       → judgedBy s q lead l good ≡ stops (count + n)
@@ -170,7 +170,7 @@ module _ {s : System} {q : ℕ} {lead l : List ℕ} {e r p count first : ℕ} {b
       pub round-judged : judgedBy s q lead l good ≡ pick (good (recurring s q lead l)) accepts rejects
       round-judged = round .0
 
-      pub round-met : (t : ℕ → ℕ → Bool) (g : Taken → ℕ) (vs : List ℕ) (v : ℕ) → r ≤ length vs → Noted s l e t g r vs
-          → Met t (λ x. x) (take (r - (first - 1)) (drop (first - 1) vs)) v → Met t g (recurring s q lead l) v
-      round-met t g vs v enough n h k =
-          h k ∙ noted-window s l e t g r vs enough n (r - (first - 1)) (first - 1) (omega (arith, earlier .0)) k ∙ sym (round .1 (λ x. t k (g x)))
+      pub round-sums : (t : ℕ → ℕ → Bool) (g : Taken → ℕ) (vs : List ℕ) (v : ℕ) → r ≤ length vs → SumsKept s l e t g r vs
+          → SumsUp t (λ x. x) (take (r - (first - 1)) (drop (first - 1) vs)) v → SumsUp t g (recurring s q lead l) v
+      round-sums t g vs v enough n h k =
+          h k ∙ kept-window s l e t g r vs enough n (r - (first - 1)) (first - 1) (omega (arith, earlier .0)) k ∙ sym (round .1 (λ x. t k (g x)))

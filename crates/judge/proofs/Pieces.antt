@@ -1,8 +1,8 @@
 -- Reading a piece of a word letter by letter, over any transition system.
 --     letter-below         the letters of a piece without stray bytes
---     read-more            one letter more that leads on
+--     piece-more            one letter more that leads on
 --     read-misses          one letter more that meets a missing transition
---     met-letter           what one letter more meets
+--     sums-letter           what one letter more meets
 --     misses-within        a missing transition is met before the end of the piece
 --     column-long, column-at     the part of some cells from a letter on: how long it is, and what stands there
 use mathlib.Core.Path.{_≡_, sym, ap, _∙_}
@@ -21,8 +21,8 @@ use Rattle.rules.specs.Runs.{strayLetter, Taken, taken, passFrom}
 use Rattle.rules.proofs.Bools.{or-none}
 use Rattle.rules.proofs.Reach.{path-append}
 use Rattle.rules.proofs.Runs.{path-end, pass-append}
-use Rattle.judge.specs.Passes.{Met, MissesAfter}
-use Rattle.judge.proofs.Sums.{Joins, met-more}
+use Rattle.judge.specs.Passes.{SumsUp, MissesAfter}
+use Rattle.judge.proofs.Sums.{Joins, sums-more}
 
 pub letter-below : (m : ℕ) (w : List ℕ) → strayLetter m w ≡ false → (i : ℕ) → i < length w → getD w i 0 < m
 letter-below m [] h i l = absurd (not-suc-le-zero l)
@@ -30,8 +30,8 @@ letter-below m (a ∷ w) h zero l = leb-false m a (or-none (leb m a) (strayLette
 letter-below m (a ∷ w) h (suc i) l = letter-below m w (or-none (leb m a) (strayLetter m w) h .1) i (omega arith)
 
 module _ (s : System) (p : ℕ) (w : List ℕ) (i q : ℕ) (a : Path s p (take i w) q) (l : i < length w) where
-  pub read-more : getD w i 0 < s .letters → s .go q (getD w i 0) < s .states → Path s p (take (i + 1) w) (s .go q (getD w i 0))
-  read-more b t = rw (add-one i, take-suc w i 0 l) (path-append s a (step b t here))
+  pub piece-more : getD w i 0 < s .letters → s .go q (getD w i 0) < s .states → Path s p (take (i + 1) w) (s .go q (getD w i 0))
+  piece-more b t = rw (add-one i, take-suc w i 0 l) (path-append s a (step b t here))
 
   pub read-misses : getD w i 0 < s .letters → s .states ≤ s .go q (getD w i 0) → MissesAfter s p w i
   read-misses b t =
@@ -51,10 +51,10 @@ module _ (s : System) (p : ℕ) (w : List ℕ) (i q : ℕ) (a : Path s p (take i
       }
 
   module _ (t : ℕ → ℕ → Bool) (g : Taken → ℕ) (j : ℕ → ℕ → ℕ) (joins : Joins t j) where
-    pub met-letter : (u : ℕ) → Met t g (passFrom s p (take i w)) u → Met t g (passFrom s p (take (i + 1) w)) (j u (g (taken q (getD w i 0))))
-    met-letter u h =
+    pub sums-letter : (u : ℕ) → SumsUp t g (passFrom s p (take i w)) u → SumsUp t g (passFrom s p (take (i + 1) w)) (j u (g (taken q (getD w i 0))))
+    sums-letter u h =
         rw (add-one i, take-suc w i 0 l, pass-append s (take i w) (getD w i 0 ∷ []) p, path-end s a)
-        (met-more t g j joins (passFrom s p (take i w)) (taken q (getD w i 0)) u h)
+        (sums-more t g j joins (passFrom s p (take i w)) (taken q (getD w i 0)) u h)
 
 pub misses-within : (s : System) (p : ℕ) (w : List ℕ) (n : ℕ) → MissesAfter s p w n → n < length w
 misses-within s p w n m =

@@ -1,8 +1,8 @@
 -- Numbers that sum up what is met, by tests.
 --     Joins t j           joining two numbers by j passes the test t i exactly if one of the two does
 --     largest-joins, union-joins     the larger of two numbers; the union of two sets
---     met-more            one thing more is met
---     met-rest, met-end   numbers that are gone through from the front
+--     sums-more            one thing more is met
+--     sums-rest, sums-end   numbers that are gone through from the front
 use mathlib.Core.Path.{_≡_, sym, _∙_}
 use mathlib.Core.Bool.{Bool, _||_, or-false}
 use mathlib.Core.List.{List, [], _∷_, _++_}
@@ -18,7 +18,7 @@ use Rattle.rules.specs.Basics.{bit}
 use Rattle.rules.proofs.Bools.{by}
 use Rattle.rules.proofs.Bits.{bit-or}
 use Rattle.rules.proofs.Sets.{any-append}
-use Rattle.judge.specs.Passes.{Met}
+use Rattle.judge.specs.Passes.{SumsUp}
 
 abbrev pub Joins : (ℕ → ℕ → Bool) → (ℕ → ℕ → ℕ) → Type 0
 Joins t j = (i u v : ℕ) → t i (j u v) ≡ t i u || t i v
@@ -34,13 +34,13 @@ pub union-joins : Joins bit bitOr
 union-joins i u v = bit-or i u v
 
 module _ {A : Type 0} (t : ℕ → ℕ → Bool) (g : A → ℕ) where
-  pub met-more : (j : ℕ → ℕ → ℕ) → Joins t j → (xs : List A) (x : A) (u : ℕ) → Met t g xs u → Met t g (xs ++ (x ∷ [])) (j u (g x))
-  met-more j joins xs x u h i = joins i u (g x) ∙ rw (h i) (sym (any-append (λ x. t i (g x)) xs (x ∷ []) ∙ rw (or-false (t i (g x)))))
+  pub sums-more : (j : ℕ → ℕ → ℕ) → Joins t j → (xs : List A) (x : A) (u : ℕ) → SumsUp t g xs u → SumsUp t g (xs ++ (x ∷ [])) (j u (g x))
+  sums-more j joins xs x u h i = joins i u (g x) ∙ rw (h i) (sym (any-append (λ x. t i (g x)) xs (x ∷ []) ∙ rw (or-false (t i (g x)))))
 
 -- numbers that are gone through from the front, the first k of them so far
-module _ (t : ℕ → ℕ → Bool) (xs : List ℕ) (k u : ℕ) (h : Met t (λ x. x) (take k xs) u) where
-  pub met-rest : (j : ℕ → ℕ → ℕ) → Joins t j → k < length xs → Met t (λ x. x) (take (k + 1) xs) (j u (getD xs k 0))
-  met-rest j joins l = rw (add-one k, take-suc xs k 0 l) (met-more t (λ x. x) j joins (take k xs) (getD xs k 0) u h)
+module _ (t : ℕ → ℕ → Bool) (xs : List ℕ) (k u : ℕ) (h : SumsUp t (λ x. x) (take k xs) u) where
+  pub sums-rest : (j : ℕ → ℕ → ℕ) → Joins t j → k < length xs → SumsUp t (λ x. x) (take (k + 1) xs) (j u (getD xs k 0))
+  sums-rest j joins l = rw (add-one k, take-suc xs k 0 l) (sums-more t (λ x. x) j joins (take k xs) (getD xs k 0) u h)
 
-  pub met-end : length xs ≤ k → Met t (λ x. x) xs u
-  met-end l = rw (take-all k xs l) at h
+  pub sums-end : length xs ≤ k → SumsUp t (λ x. x) xs u
+  sums-end l = rw (take-all k xs l) at h

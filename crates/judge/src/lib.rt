@@ -1,8 +1,8 @@
 // Looped words: their refusals, the rest of a piece, and the judge of parity tables.
 // It rests on `rules` alone. `judge_parity` and `rest_of` keep the promises `ParitySays` and `RestSays` of the rules, for all arrays, sizes and
 // places; `words` has the refusals of a word, for any judge.
-use crate::sizes::FEW_ROWS;
-use crate::sizes::SOME_ROWS;
+use crate::sizes::SMALL_ROWS;
+use crate::sizes::MIDDLE_ROWS;
 
 mod parity;
 mod sizes;
@@ -40,13 +40,13 @@ pub fn judge_parity(
     if refused != 0 {
         return Judged::Refused(refused);
     }
-    if rows <= FEW_ROWS {
-        return sizes::judge_few(rows, letters, targets, priorities, lead, looped);
+    if rows <= SMALL_ROWS {
+        return sizes::judge_small(rows, letters, targets, priorities, lead, looped);
     }
-    if rows <= SOME_ROWS {
-        return sizes::judge_some(rows, letters, targets, priorities, lead, looped);
+    if rows <= MIDDLE_ROWS {
+        return sizes::judge_middle(rows, letters, targets, priorities, lead, looped);
     }
-    sizes::judge_many(rows, letters, targets, priorities, lead, looped)
+    sizes::judge_large(rows, letters, targets, priorities, lead, looped)
 }
 
 // From a place of the word to the end of its piece, as that part of the lead-in or of the loop; past the last letter the empty

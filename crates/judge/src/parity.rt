@@ -13,9 +13,9 @@ ghost use lib.ListN.{length};
 ghost use Rattle.rules.specs.Limits.{noRow};
 ghost use Rattle.rules.specs.Judges.{paritySystem, priorityAt, parityFault, wordFault, parityRun};
 ghost use Rattle.rules.specs.Runs.{strayLetter};
-ghost use Rattle.rules.specs.Tables.{targetFault};
+ghost use Rattle.rules.specs.Tables.{badTargets};
 ghost use Rattle.judge.specs.Judgements.{answerOf};
-ghost use Rattle.judge.specs.Passes.{Met, MetOn, PieceSays, Blank};
+ghost use Rattle.judge.specs.Passes.{SumsUp, SumsUpOn, PieceSays, Blank};
 
 // Where reading a piece led, or no row where it met a missing transition; the letters read; the largest priority met.
 struct Reading {
@@ -25,8 +25,8 @@ struct Reading {
 }
 
 // Some target is neither a row nor the missing one.
-fn target_fault(targets: &[u16], rows: u16) -> bool
-    ensures { λ r. ⌜ r ≡ targetFault rows noRow (now (targets .entry)) ⌝ }
+fn bad_targets(targets: &[u16], rows: u16) -> bool
+    ensures { λ r. ⌜ r ≡ badTargets rows noRow (now (targets .entry)) ⌝ }
 {
     let mut bad = false;
     let mut c = 0;
@@ -49,7 +49,7 @@ pub(crate) fn parity_fault(rows: usize, letters: usize, targets: &[u16], priorit
     if (targets.len() < cells) | (priorities.len() < cells) {
         return refusal::PARITY;
     }
-    if target_fault(&targets[..cells], rows as u16) {
+    if bad_targets(&targets[..cells], rows as u16) {
         return refusal::PARITY;
     }
     0
@@ -73,7 +73,7 @@ fn read_piece(
     from: usize,
 ) -> Reading
     requires { ⌜ (parityFault rows letters (now targets) (now priorities) ≡ 0) × (strayLetter letters (now piece) ≡ false) × (from < rows) ⌝ }
-    ensures { λ r. ⌜ PieceSays (paritySystem rows letters (now (targets .entry))) from (now (piece .entry)) (r .place) (r .read) × MetOn (paritySystem rows letters (now (targets .entry))) ltb (priorityAt letters (now (priorities .entry))) from (now (piece .entry)) (r .place) (r .peak) ⌝ }
+    ensures { λ r. ⌜ PieceSays (paritySystem rows letters (now (targets .entry))) from (now (piece .entry)) (r .place) (r .read) × SumsUpOn (paritySystem rows letters (now (targets .entry))) ltb (priorityAt letters (now (priorities .entry))) from (now (piece .entry)) (r .place) (r .peak) ⌝ }
 {
     let mut place = from;
     let mut peak = 0;
@@ -103,7 +103,7 @@ fn read_piece(
 
 // The largest of some priorities.
 fn peak_of(peaks: &[u8]) -> u8
-    ensures { λ r. ⌜ Met ltb (λ x. x) (now (peaks .entry)) r ⌝ }
+    ensures { λ r. ⌜ SumsUp ltb (λ x. x) (now (peaks .entry)) r ⌝ }
 {
     let mut peak = 0;
     let mut i = 0;

@@ -7,15 +7,15 @@ ghost use mathlib.Core.Path.{_≡_};
 ghost use Prim.Native.Nat.{_≤_};
 ghost use Rattle.rules.specs.Judges.{parityFault, wordFault, parityRun};
 ghost use Rattle.judge.specs.Judgements.{answerOf};
-ghost use Rattle.judge.specs.Sizes.{fewRows, someRows};
+ghost use Rattle.judge.specs.Sizes.{smallRows, middleRows};
 
 // The rows that the small arrays have room for, and the middle ones.
-pub(crate) const FEW_ROWS: usize = 64;
+pub(crate) const SMALL_ROWS: usize = 64;
 
-pub(crate) const SOME_ROWS: usize = 1024;
+pub(crate) const MIDDLE_ROWS: usize = 1024;
 
 // The answer to a word with nothing to refuse, over few rows.
-pub(crate) fn judge_few(
+pub(crate) fn judge_small(
     rows: usize,
     letters: usize,
     targets: &[u16],
@@ -23,11 +23,11 @@ pub(crate) fn judge_few(
     lead: &[u8],
     looped: &[u8],
 ) -> Judged
-    requires { ⌜ (parityFault rows letters (now targets) (now priorities) ≡ 0) × (wordFault letters (now lead) (now looped) ≡ 0) × (rows ≤ fewRows) ⌝ }
+    requires { ⌜ (parityFault rows letters (now targets) (now priorities) ≡ 0) × (wordFault letters (now lead) (now looped) ≡ 0) × (rows ≤ smallRows) ⌝ }
     ensures { λ r. ⌜ answerOf r ≡ parityRun rows letters (now (targets .entry)) (now (priorities .entry)) (now (lead .entry)) (now (looped .entry)) ⌝ }
 {
-    let mut begun = [0; FEW_ROWS];
-    let mut peaks = [0; FEW_ROWS];
+    let mut begun = [0; SMALL_ROWS];
+    let mut peaks = [0; SMALL_ROWS];
     judge_word(
         rows,
         letters,
@@ -41,7 +41,7 @@ pub(crate) fn judge_few(
 }
 
 // The same over some rows.
-pub(crate) fn judge_some(
+pub(crate) fn judge_middle(
     rows: usize,
     letters: usize,
     targets: &[u16],
@@ -49,11 +49,11 @@ pub(crate) fn judge_some(
     lead: &[u8],
     looped: &[u8],
 ) -> Judged
-    requires { ⌜ (parityFault rows letters (now targets) (now priorities) ≡ 0) × (wordFault letters (now lead) (now looped) ≡ 0) × (rows ≤ someRows) ⌝ }
+    requires { ⌜ (parityFault rows letters (now targets) (now priorities) ≡ 0) × (wordFault letters (now lead) (now looped) ≡ 0) × (rows ≤ middleRows) ⌝ }
     ensures { λ r. ⌜ answerOf r ≡ parityRun rows letters (now (targets .entry)) (now (priorities .entry)) (now (lead .entry)) (now (looped .entry)) ⌝ }
 {
-    let mut begun = [0; SOME_ROWS];
-    let mut peaks = [0; SOME_ROWS];
+    let mut begun = [0; MIDDLE_ROWS];
+    let mut peaks = [0; MIDDLE_ROWS];
     judge_word(
         rows,
         letters,
@@ -67,7 +67,7 @@ pub(crate) fn judge_some(
 }
 
 // The same over as many rows as there may be.
-pub(crate) fn judge_many(
+pub(crate) fn judge_large(
     rows: usize,
     letters: usize,
     targets: &[u16],

@@ -18,23 +18,23 @@ use Rattle.rules.specs.Systems.{cell}
 use Rattle.rules.specs.Tables.{Table, tableOf}
 use Rattle.rules.proofs.Bits.{bit-and, bit-over, bits-determine}
 use Rattle.rules.proofs.Bools.{by, clash, and-parts}
-use Rattle.rules.proofs.Refusals.{TakenTable, taken-table}
+use Rattle.rules.proofs.Refusals.{TableFacts, table-facts}
 use Rattle.rules.proofs.Sets.{any-fails, apart, below-find, below-intro}
-use Rattle.tables.specs.Parts.{Taken}
+use Rattle.tables.specs.Parts.{WellFormed}
 use Rattle.rules.proofs.Arrays.{cell-within}
 use Rattle.tables.proofs.Cells.{marks-small}
-use Rattle.judge.specs.Passes.{Met}
+use Rattle.judge.specs.Passes.{SumsUp}
 use Rattle.judge_rabin.specs.Marks.{prohibitedMarks, requiredMarks}
 
-pub cell-placed : (bs : List ℕ) (q a : ℕ) → Taken bs × (q < tableOf bs .states) × (a < tableOf bs .letters)
-    → TakenTable bs × (cell (tableOf bs .letters) q a < tableOf bs .states * tableOf bs .letters)
-cell-placed bs q a h = (taken-table bs (h .0), cell-within _ _ q a (h .1) (h .2))
+pub cell-placed : (bs : List ℕ) (q a : ℕ) → WellFormed bs × (q < tableOf bs .states) × (a < tableOf bs .letters)
+    → TableFacts bs × (cell (tableOf bs .letters) q a < tableOf bs .states * tableOf bs .letters)
+cell-placed bs q a h = (table-facts bs (h .0), cell-within _ _ q a (h .1) (h .2))
 
-module _ (bs : List ℕ) (sound : Taken bs) where
+module _ (bs : List ℕ) (sound : WellFormed bs) where
   abbrev t : Table
   t = tableOf bs
 
-  module _ (xs : List Runs.Taken) (p r : ℕ) (l : r < 256) (barred : Met bit (prohibitedMarks t) xs p) (met : Met bit (requiredMarks t) xs r) where
+  module _ (xs : List Runs.Taken) (p r : ℕ) (l : r < 256) (barred : SumsUp bit (prohibitedMarks t) xs p) (met : SumsUp bit (requiredMarks t) xs r) where
     pair-satisfied : (i : ℕ) → satisfiesPair t (suc i) xs ≡ not (bit i p) && bit i r
     pair-satisfied i = let e : suc i - 1 ≡ i = omega arith in rw (e, barred i, met i)
 

@@ -1,15 +1,15 @@
 // What the Rabin judge reads of a table that is taken: its sizes and its start, and of a cell the target and the marks. No other function of the
 // judge knows which byte says what.
 use rules::limit::HEADER_SIZE;
-use tables::marks_word;
+use tables::mask_of;
 ghost use mathlib.Core.Path.{_≡_};
 ghost use Prim.Native.Nat.{_/_, _%_, _<_};
 ghost use Rattle.rules.specs.Tables.{tableOf, targetOf, prohibitedByte, requiredByte};
-ghost use Rattle.tables.specs.Parts.{Taken, statesOf};
+ghost use Rattle.tables.specs.Parts.{WellFormed, statesOf};
 
 // The number of states.
 pub(crate) fn states_of(table: &[u8]) -> usize
-    requires { ⌜ Taken (now table) ⌝ }
+    requires { ⌜ WellFormed (now table) ⌝ }
     ensures { λ r. ⌜ r ≡ statesOf (now (table .entry)) ⌝ }
 {
     table[0] as usize
@@ -17,7 +17,7 @@ pub(crate) fn states_of(table: &[u8]) -> usize
 
 // The start.
 pub(crate) fn start_of(table: &[u8]) -> usize
-    requires { ⌜ Taken (now table) ⌝ }
+    requires { ⌜ WellFormed (now table) ⌝ }
     ensures { λ r. ⌜ r ≡ tableOf (now (table .entry)) .start ⌝ }
 {
     table[3] as usize
@@ -26,7 +26,7 @@ pub(crate) fn start_of(table: &[u8]) -> usize
 // Where a state goes by a letter, no state where the transition is missing. Behind the state come one product and one read: the targets are cut
 // off the table first, once per loop, and a letter's column of them while the state is still awaited.
 pub(crate) fn target_of(table: &[u8], state: usize, letter: usize) -> usize
-    requires { ⌜ Taken (now table) × (state < statesOf (now table)) × (letter < tableOf (now table) .letters) ⌝ }
+    requires { ⌜ WellFormed (now table) × (state < statesOf (now table)) × (letter < tableOf (now table) .letters) ⌝ }
     ensures { λ r. ⌜ r ≡ targetOf (tableOf (now (table .entry))) state letter ⌝ }
 {
     let m = table[1] as usize;
@@ -37,12 +37,12 @@ pub(crate) fn target_of(table: &[u8], state: usize, letter: usize) -> usize
 }
 
 // Both sets of marks of that transition as one word, the required pairs above the prohibited ones.
-pub(crate) fn marks_of(table: &[u8], state: usize, letter: usize) -> u16
-    requires { ⌜ Taken (now table) × (state < statesOf (now table)) × (letter < tableOf (now table) .letters) ⌝ }
+pub(crate) fn marks_at(table: &[u8], state: usize, letter: usize) -> u16
+    requires { ⌜ WellFormed (now table) × (state < statesOf (now table)) × (letter < tableOf (now table) .letters) ⌝ }
     ensures { λ r. ⌜ (r % 256 ≡ prohibitedByte (tableOf (now (table .entry))) state letter) × (r / 256 ≡ requiredByte (tableOf (now (table .entry))) state letter) ⌝ }
 {
     let n = table[0] as usize;
     let m = table[1] as usize;
     let at = HEADER_SIZE + n * m + 2 * (state * m + letter);
-    marks_word(table[at], table[at + 1])
+    mask_of(table[at], table[at + 1])
 }

@@ -10,9 +10,9 @@ ghost use Rattle.rules.specs.Basics.{bit};
 ghost use Rattle.rules.specs.Judges.{wordFault, rabinRun};
 ghost use Rattle.rules.specs.Runs.{strayLetter};
 ghost use Rattle.rules.specs.Tables.{tableOf};
-ghost use Rattle.tables.specs.Parts.{Taken, statesOf, systemIn};
+ghost use Rattle.tables.specs.Parts.{WellFormed, statesOf, systemIn};
 ghost use Rattle.judge.specs.Judgements.{answerOf};
-ghost use Rattle.judge.specs.Passes.{Met, MetOn, PieceSays, Blank};
+ghost use Rattle.judge.specs.Passes.{SumsUp, SumsUpOn, PieceSays, Blank};
 ghost use Rattle.judge_rabin.specs.Marks.{prohibitedMarks, requiredMarks};
 
 // Where reading a piece led, or no state where it met a missing transition; the letters read; of a piece read to its end the pairs met
@@ -26,8 +26,8 @@ struct Reading {
 
 // Reads a piece from a state on, letter by letter, as far as the transitions lead. Both sets of marks are met as one word.
 fn read_piece(table: &[u8], piece: &[u8], from: usize) -> Reading
-    requires { ⌜ Taken (now table) × (strayLetter (tableOf (now table) .letters) (now piece) ≡ false) × (from < statesOf (now table)) ⌝ }
-    ensures { λ r. ⌜ PieceSays (systemIn (now (table .entry))) from (now (piece .entry)) (r .place) (r .read) × MetOn (systemIn (now (table .entry))) bit (prohibitedMarks (tableOf (now (table .entry)))) from (now (piece .entry)) (r .place) (r .prohibited) × MetOn (systemIn (now (table .entry))) bit (requiredMarks (tableOf (now (table .entry)))) from (now (piece .entry)) (r .place) (r .required) ⌝ }
+    requires { ⌜ WellFormed (now table) × (strayLetter (tableOf (now table) .letters) (now piece) ≡ false) × (from < statesOf (now table)) ⌝ }
+    ensures { λ r. ⌜ PieceSays (systemIn (now (table .entry))) from (now (piece .entry)) (r .place) (r .read) × SumsUpOn (systemIn (now (table .entry))) bit (prohibitedMarks (tableOf (now (table .entry)))) from (now (piece .entry)) (r .place) (r .prohibited) × SumsUpOn (systemIn (now (table .entry))) bit (requiredMarks (tableOf (now (table .entry)))) from (now (piece .entry)) (r .place) (r .required) ⌝ }
 {
     let n = cells::states_of(table);
     let mut place = from;
@@ -44,7 +44,7 @@ fn read_piece(table: &[u8], piece: &[u8], from: usize) -> Reading
                 required: 0,
             };
         }
-        met = met | cells::marks_of(table, place, letter);
+        met = met | cells::marks_at(table, place, letter);
         place = target;
         i += 1;
     }
@@ -60,7 +60,7 @@ fn read_piece(table: &[u8], piece: &[u8], from: usize) -> Reading
 
 // The pairs that some of the sets have.
 fn union_of(sets: &[u8]) -> u8
-    ensures { λ r. ⌜ Met bit (λ x. x) (now (sets .entry)) r ⌝ }
+    ensures { λ r. ⌜ SumsUp bit (λ x. x) (now (sets .entry)) r ⌝ }
 {
     let mut union = 0;
     let mut i = 0;
@@ -81,7 +81,7 @@ pub(crate) fn judge_word(
     prohibited: &mut [u8],
     required: &mut [u8],
 ) -> Judged
-    requires { ⌜ Taken (now table) × (wordFault (tableOf (now table) .letters) (now lead) (now looped) ≡ 0) × Blank (statesOf (now table)) (now begun) × (statesOf (now table) ≤ length (now prohibited)) × (statesOf (now table) ≤ length (now required)) ⌝ }
+    requires { ⌜ WellFormed (now table) × (wordFault (tableOf (now table) .letters) (now lead) (now looped) ≡ 0) × Blank (statesOf (now table)) (now begun) × (statesOf (now table) ≤ length (now prohibited)) × (statesOf (now table) ≤ length (now required)) ⌝ }
     ensures { λ r. ⌜ answerOf r ≡ rabinRun (tableOf (now (table .entry))) (now (lead .entry)) (now (looped .entry)) ⌝ }
 {
     let n = cells::states_of(table);

@@ -11,7 +11,7 @@ use lib.Dec.{eqb}
 use lib.ListN.{length, getD, length-append}
 use Rattle.rules.specs.Limits.{maxLetters, maxRows, noRow}
 use Rattle.rules.specs.Texts.{blank, lineFeed}
-use Rattle.rules.specs.Listings.{field, optional, line, lineAt, rowLines, linesAt, lines, head, refused}
+use Rattle.rules.specs.Listings.{field, optional, line, lineAt, rowLines, linesAt, lines, head, refusalLine}
 use Rattle.rules.proofs.Texts.{numeral-length, each-length}
 use Rattle.listing_text.specs.Writing.{InReach}
 
@@ -49,6 +49,6 @@ module _ (m : ℕ) (few : m ≤ maxLetters) (ts ps : List ℕ) (lt : Small ts) (
       let rows = each-length (linesAt m ts ps ss rs) 1056 n 0 (λ i l. row-length i _ _ (omega arith) (ls i) (lr i)) in
       record { ends = simp length-append (omega (arith, field-length n blank (omega arith), field-length m blank (omega arith), field-length k lineFeed lk)) }
 
-pub refused-reach : (f : ℕ) → IsSmall f → InReach 0 (refused f)
-unfolding refused
+pub refused-reach : (f : ℕ) → IsSmall f → InReach 0 (refusalLine f)
+unfolding refusalLine
 refused-reach f l = record { ends = simp length-append (omega (arith, field-length f lineFeed l)) }

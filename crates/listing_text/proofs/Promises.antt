@@ -24,17 +24,17 @@ use Rattle.rules.specs.Systems.{cell}
 use Rattle.rules.specs.Records.{decimal}
 use Rattle.rules.specs.Rows.{targetNumber}
 use Rattle.rules.specs.Tables.{tableOf, tableFault, tablePlan}
-use Rattle.rules.specs.Claims.{tableRows, targets, priorities, sourceStates, recordNumbers, exceeds}
+use Rattle.rules.specs.Claims.{tableRows, rowTargets, rowPriorities, sourceStates, recordNumbers, exceeds}
 use Rattle.rules.specs.Says.{areShort, arraysFault, translateFault, afterwards, TranslateSays, rowArrays}
-use Rattle.rules.specs.Listings.{lineAt, rowLines, linesAt, lines, head, refused, tableListing, listing, ListingSays}
+use Rattle.rules.specs.Listings.{lineAt, rowLines, linesAt, lines, head, refusalLine, tableListing, listing, ListingSays}
 use Rattle.rules.proofs.Bools.{or-none}
 use Rattle.rules.proofs.Arrays.{cells-length, row-ends}
 use Rattle.rules.proofs.Texts.{each-same}
-use Rattle.rules.proofs.Refusals.{TakenTable, first-zero, first-none, when-none, taken-table}
+use Rattle.rules.proofs.Refusals.{TableFacts, first-zero, first-none, when-none, table-facts}
 use Rattle.listing_text.specs.Writing.{Wrote, Shown}
 
 -- ---- nothing is refused
-taken-translation : (bs : List ℕ) (c a b d e : ℕ) → translateFault bs c a b d e ≡ 0 → TakenTable bs × (length (tableRows bs c) ≤ maxRows)
+taken-translation : (bs : List ℕ) (c a b d e : ℕ) → translateFault bs c a b d e ≡ 0 → TableFacts bs × (length (tableRows bs c) ≤ maxRows)
 unfolding translateFault
 taken-translation bs c a b d e z =
     let m = tableOf bs .letters in
@@ -44,7 +44,7 @@ taken-translation bs c a b d e z =
     let u = first-none (areShort c m a b d e) 6 (when full Refusal.full) (r .1) in
     let v = or-none (eqb c 0) (ltb maxRows c || arrays) (u .0) in
     let w = or-none (ltb maxRows c) arrays (v .1) in
-    (taken-table bs (r .0), le-trans (ltb-false c _ (when-none full 7 (u .1))) (ltb-false maxRows c (w .0)))
+    (table-facts bs (r .0), le-trans (ltb-false c _ (when-none full 7 (u .1))) (ltb-false maxRows c (w .0)))
 
 -- ---- the fronts of the arrays
 module _ (k : ℕ) (xs o o′ : List ℕ) (e : o′ ≡ afterwards 0 k xs o) where
@@ -79,10 +79,10 @@ module _ {bs : List ℕ} {c : ℕ} {ts ts′ ps ps′ ss ss′ es es′ : List �
   cells : length (tableRows bs c) * tableOf bs .letters ≡ rows * tableOf bs .letters
   cells = rw (says .count)
 
-  target-length : length (targets bs c) ≡ rows * tableOf bs .letters
+  target-length : length (rowTargets bs c) ≡ rows * tableOf bs .letters
   target-length = cells-length (targetNumber (tablePlan (tableOf bs)) noRow (tableRows bs c)) (tableOf bs .letters) (tableRows bs c) ∙ cells
 
-  priority-length : length (priorities bs c) ≡ rows * tableOf bs .letters
+  priority-length : length (rowPriorities bs c) ≡ rows * tableOf bs .letters
   priority-length = cells-length (λ x y. tablePlan (tableOf bs) .step x y .prio) (tableOf bs .letters) (tableRows bs c) ∙ cells
 
   state-length : length (sourceStates bs c) ≡ rows
@@ -91,7 +91,7 @@ module _ {bs : List ℕ} {c : ℕ} {ts ts′ ps ps′ ss ss′ es es′ : List �
   record-length : length (recordNumbers bs c) ≡ rows
   record-length = length-map (tableRows bs c) (λ r. decimal (r .memory)) ∙ sym (says .count)
 
-  pub taken : TakenTable bs
+  pub taken : TableFacts bs
   taken = taken-translation bs c (length ts) (length ps) (length ss) (length es) (sym (says .refusal)) .0
 
   pub shown : Shown rows (tableOf bs .letters) ts′ ps′ ss′ es′
@@ -100,20 +100,20 @@ module _ {bs : List ℕ} {c : ℕ} {ts ts′ ps ps′ ss ss′ es es′ : List �
       record {
         most-rows = rw (says .count) (taken-translation bs c (length ts) (length ps) (length ss) (length es) (sym (says .refusal)) .1);
         most-letters = taken .sizes .most-letters;
-        target-cells = omega (arith, target-length, front-length k (targets bs c) ts ts′ (says .target-array));
-        priority-cells = omega (arith, priority-length, front-length k (priorities bs c) ps ps′ (says .priority-array));
-        states = omega (arith, state-length, front-length c (sourceStates bs c) ss ss′ (says .state-array));
+        target-cells = omega (arith, target-length, front-length k (rowTargets bs c) ts ts′ (says .target-array));
+        priority-cells = omega (arith, priority-length, front-length k (rowPriorities bs c) ps ps′ (says .priority-array));
+        states = omega (arith, state-length, front-length c (sourceStates bs c) ss ss′ (says .source-array));
         records = omega (arith, record-length, front-length c (recordNumbers bs c) es es′ (says .record-array));
       }
 
   -- the arrays as they are left give the lines of what was found
-  as-found : lines rows (tableOf bs .letters) ts′ ps′ ss′ es′ ≡ lines rows (tableOf bs .letters) (targets bs c) (priorities bs c) (sourceStates bs c) (recordNumbers bs c)
+  as-found : lines rows (tableOf bs .letters) ts′ ps′ ss′ es′ ≡ lines rows (tableOf bs .letters) (rowTargets bs c) (rowPriorities bs c) (sourceStates bs c) (recordNumbers bs c)
   as-found =
       let k = c * tableOf bs .letters in
-      lines-same rows (tableOf bs .letters) ts′ (targets bs c) ps′ (priorities bs c) ss′ (sourceStates bs c) es′ (recordNumbers bs c)
-      (λ p l. front-at k (targets bs c) ts ts′ (says .target-array) p (omega (arith, target-length)))
-      (λ p l. front-at k (priorities bs c) ps ps′ (says .priority-array) p (omega (arith, priority-length)))
-      (λ i l. front-at c (sourceStates bs c) ss ss′ (says .state-array) i (omega (arith, state-length)))
+      lines-same rows (tableOf bs .letters) ts′ (rowTargets bs c) ps′ (rowPriorities bs c) ss′ (sourceStates bs c) es′ (recordNumbers bs c)
+      (λ p l. front-at k (rowTargets bs c) ts ts′ (says .target-array) p (omega (arith, target-length)))
+      (λ p l. front-at k (rowPriorities bs c) ps ps′ (says .priority-array) p (omega (arith, priority-length)))
+      (λ i l. front-at c (sourceStates bs c) ss ss′ (says .source-array) i (omega (arith, state-length)))
       (λ i l. front-at c (recordNumbers bs c) es es′ (says .record-array) i (omega (arith, record-length)))
 
   pub listing-done : listing bs c (length ts) (length ps) (length ss) (length es) ≡ head rows (tableOf bs .letters) (tableOf bs .pairs) ++ lines rows (tableOf bs .letters) ts′ ps′ ss′ es′
@@ -122,7 +122,7 @@ module _ {bs : List ℕ} {c : ℕ} {ts ts′ ps ps′ ss ss′ es es′ : List �
 
 -- ---- both outcomes
 module _ {bs : List ℕ} {c : ℕ} {ts ts′ ps ps′ ss ss′ es es′ : List ℕ} {number rows : ℕ} (says : TranslateSays bs c (rowArrays ts ps ss es) (rowArrays ts′ ps′ ss′ es′) number rows) where
-  pub listing-refused : (number ≡ 0 → ⊥) → listing bs c (length ts) (length ps) (length ss) (length es) ≡ refused number
+  pub listing-refused : (number ≡ 0 → ⊥) → listing bs c (length ts) (length ps) (length ss) (length es) ≡ refusalLine number
   unfolding listing
   listing-refused ne = rw (← says .refusal, ne-eqb number 0 ne)
 

@@ -10,7 +10,7 @@ ghost use mathlib.Core.List.{_++_};
 ghost use lib.ListN.{length};
 ghost use Rattle.rules.specs.Limits.{maxLetters, maxRows};
 ghost use Rattle.rules.specs.Systems.{cell};
-ghost use Rattle.rules.specs.Listings.{line, rowLines, lines, head, refused};
+ghost use Rattle.rules.specs.Listings.{line, rowLines, lines, head, refusalLine};
 ghost use Rattle.listing_text.specs.Writing.{InReach, Wrote, Shown};
 
 // Writes the line of one row and one letter.
@@ -114,8 +114,8 @@ pub(crate) fn put_table(
 
 // Writes the line of a refusal, from the first place on.
 pub(crate) fn put_refusal(out: &mut [u8], number: u8) -> usize
-    requires { ⌜ InReach 0 (refused number) ⌝ }
-    ensures { λ r. ⌜ Wrote 0 (refused number) (now (out .entry)) (now (out .exit)) r ⌝ }
+    requires { ⌜ InReach 0 (refusalLine number) ⌝ }
+    ensures { λ r. ⌜ Wrote 0 (refusalLine number) (now (out .entry)) (now (out .exit)) r ⌝ }
 {
     let next = put_bytes(out, 0, b"refused ");
     put_field(out, next, number as u32, LINE_FEED)

@@ -1,19 +1,19 @@
--- Records as words: what a word keeps of an ordering, and a turn of each loop over the positions of a record.
+-- Records as words: what a code keeps of an ordering, and a turn of each loop over the positions of a record.
 --     AllPairs o               every element of o is the number of a pair that a place can hold
 --     AllBelow o               every element of o is a number that a place can hold
---     packed-below             the word of at most n elements is below base ^ n
---     kept-below               the word of those elements behind a position that pass a test
---     inRear b v o             the word v after those elements of o that pass have gone into its last place, one after the other
---     rear-word, rear-below    what that word is, from nothing, and that it stays small
---     packed-append            the word of two lists, one behind the other
---     moved-joined, moved-small     the word after a move, from the words of its two parts, and its bound
+--     packed-below             the code of at most n elements is below base ^ n
+--     kept-below               the code of those elements behind a position that pass a test
+--     inRear b v o             the code v after those elements of o that pass have gone into its last place, one after the other
+--     rear-code, rear-below    what that code is, from nothing, and that it stays small
+--     packed-append            the code of two lists, one behind the other
+--     moved-joined, moved-small     the code after a move, from the words of its two parts, and its bound
 --     places-length, places-at, places-below     how many places are read, what stands there, and that it is below base
 --     position-within          a position that is not refused is one of the record
 --     no-pair-at, pair-shifted, pair-below     the pair at a position: none, as a shift finds it, and below base
 --     rising-at, rising-below  the numbers from 1 on
---     places-packed, pairs-packed, packed-small     the word of an ordering holds it, and nothing else
---     moved-packed, priority-packed     a move and a priority are the same for the places of that word
---     marked-shifted, marked-masked      a pair is in a set, as a shift finds it, and as a word with its bit alone
+--     places-packed, pairs-packed, packed-small     the code of an ordering holds it, and nothing else
+--     moved-packed, priority-packed     a move and a priority are the same for the places of that code
+--     marked-shifted, marked-masked      a pair is in a set, as a shift finds it, and as a code with its bit alone
 --     from-here, from-before   what stands from a position on, and from the place before it
 --     kept-turn, rear-turn, decided-turn, digit-turn     a turn at one position
 --     digit-below              a number with one digit more stays below the next power of ten
@@ -37,7 +37,7 @@ use Rattle.rules.proofs.Sets.{any-append, any-find}
 use Rattle.rules.proofs.Arrays.{tabulate-at}
 use Rattle.rules.proofs.Appearance.{kept-length, keep-append, keep-free, keep-hold, others-all, moved-length}
 use Rattle.rules.proofs.RabinTables.{stood-rearranges}
-use Rattle.records.specs.Words.{limit, base, isPair, isMarked, packed, placesOf, places, pairsIn}
+use Rattle.records.specs.Packed.{limit, base, isPair, isMarked, packed, placesOf, places, pairsIn}
 
 abbrev pub AllPairs : List ℕ → Type 0
 AllPairs o = (i : ℕ) → isIn i o ≡ true → (0 < i) × (i < base)
@@ -63,7 +63,7 @@ moved-below b o all i h =
     all i
     (or-cases (isIn i (keep b o)) (isIn i nots) (sym (any-append (λ y. eqb i y) (keep b o) nots) ∙ h) (kept-in b i o) (kept-in (λ x. not (b x)) i o))
 
--- ---- packed words
+-- ---- packed codes
 pub packed-below : (o : List ℕ) (n : ℕ) → AllBelow o → length o ≤ n → packed o < base ^ n
 packed-below [] n all l = one-le-pow n 8 (omega arith)
 packed-below (i ∷ o) zero all l = absurd (omega arith)
@@ -125,9 +125,9 @@ module _ (b : ℕ → Bool) where
           → inRear b (v / 8 + 32768 * i) o ≡ v / 8 ^ suc k + 8 ^ e * (i + 8 * w)
       goes h r = r ∙ rw (nearer h, pow-suc 8 e, mul-assoc (8 ^ e) 8 w, mul-add (8 ^ e) i (8 * w)) (omega arith)
 
-pub rear-word : (b : ℕ → Bool) (o : List ℕ) → length o ≡ 6
+pub rear-code : (b : ℕ → Bool) (o : List ℕ) → length o ≡ 6
     → inRear (λ i. not (b i)) 0 o ≡ base ^ length (keep b o) * packed (keep (λ i. not (b i)) o)
-rear-word b o six =
+rear-code b o six =
     let nots : List ℕ = keep (λ i. not (b i)) o in
     let all = moved-length asTheyStood stood-rearranges b o ∙ six in
     rear-from (λ i. not (b i)) o 0 (length (keep b o)) (omega (arith, length-append (keep b o) nots, all))
@@ -289,7 +289,7 @@ module _ (o : List ℕ) (p i : ℕ) (within : p ≤ length o) (here : i ≡ getD
   pub from-before : (k : ℕ) → suc k ≡ p → drop k o ≡ i ∷ drop p o
   from-before k before = ap (λ (j : ℕ). drop j (0 ∷ o)) before ∙ from-here
 
-  -- backwards: the word of those that pass behind p, and the word with the pair in front
+  -- backwards: the code of those that pass behind p, and the code with the pair in front
   pub kept-turn : (b : ℕ → Bool) (goes : Bool) → goes ≡ b i → (v w k : ℕ) → suc k ≡ p
       → v ≡ packed (keep b (drop p o)) → w ≡ pick goes (i + base * v) v → w ≡ packed (keep b (drop k o))
   kept-turn b goes tested v w k before e f = f ∙ rw (from-before k before, e, tested) (by (b i) (λ t. rw t) (λ t. rw t))

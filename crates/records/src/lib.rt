@@ -1,4 +1,4 @@
-// Index appearance records by value: an ordering of pairs in one word, three bits a place, places that are not used being 0.
+// Index appearance records by value: an ordering of pairs in one code, three bits a place, places that are not used being 0.
 // It rests on `rules`. Every method takes any record and any byte and states its whole result, by the definitions of the rules
 // over the record's places.
 ghost use mathlib.Core.Path.{_≡_};
@@ -8,7 +8,7 @@ ghost use Prim.Native.Nat.{suc, _≤_, _<_, _*_, _+_, _/_, _^_};
 ghost use lib.ListN.{length, getD};
 ghost use Rattle.rules.specs.Basics.{pick, keep, tabulate};
 ghost use Rattle.rules.specs.Records.{asTheyStood, moved, priority, decimal};
-ghost use Rattle.records.specs.Words.{limit, base, isPair, isMarked, marksIn, packed, places, pairsIn};
+ghost use Rattle.records.specs.Packed.{limit, base, isPair, isMarked, marksIn, packed, places, pairsIn};
 
 // The number of a pair, from 1; 0 is no pair.
 pub struct PairNumber(pub u8);
@@ -18,17 +18,17 @@ pub struct Position(pub u8);
 
 // An ordering of pairs: the pair at position p in the three bits from 3 · (p − 1) on.
 pub struct Record {
-    pub word: u32,
+    pub code: u32,
 }
 
 impl PairNumber {
     // The pair is in the set: bit i − 1 for pair i.
-    pub fn is_in(self, pairs: u8) -> bool
-        ensures { λ r. ⌜ r ≡ isMarked pairs (self .0) ⌝ }
+    pub fn is_in(self, mask: u8) -> bool
+        ensures { λ r. ⌜ r ≡ isMarked mask (self .0) ⌝ }
     {
         let i = self.0;
         let bit = 1u32 << (i % 16);
-        let set = 2 * (pairs as u32);
+        let set = 2 * (mask as u32);
         (i < 16) & (set & bit != 0)
     }
 }
@@ -38,34 +38,34 @@ impl Record {
     pub const LIMIT: u8 = 6;
 
     // The pairs of the set, rising.
-    pub fn rising(pairs: u8) -> Self
-        ensures { λ r. ⌜ r .word ≡ packed (keep (isMarked pairs) (tabulate limit 1 (λ i. i))) ⌝ }
+    pub fn rising(mask: u8) -> Self
+        ensures { λ r. ⌜ r .code ≡ packed (keep (isMarked mask) (tabulate limit 1 (λ i. i))) ⌝ }
     {
-        let mut word = 0;
+        let mut code = 0;
         let mut i = Record::LIMIT;
         while 0 < i {
-            word = with_pair(word, PairNumber(i), PairNumber(i).is_in(pairs));
+            code = with_pair(code, PairNumber(i), PairNumber(i).is_in(mask));
             i -= 1;
         }
-        Record { word }
+        Record { code }
     }
 
     // The pair at a position; 0 where there is none.
     pub fn pair_at(self, at: Position) -> PairNumber
-        ensures { λ r. ⌜ r .0 ≡ getD (0 ∷ places (self .word)) (at .0) 0 ⌝ }
+        ensures { λ r. ⌜ r .0 ≡ getD (0 ∷ places (self .code)) (at .0) 0 ⌝ }
     {
         let p = at.0;
         if (p == 0) | (Record::LIMIT < p) {
             return PairNumber(0);
         }
         let shift = 3 * (p - 1);
-        PairNumber(((self.word >> shift) % 8) as u8)
+        PairNumber(((self.code >> shift) % 8) as u8)
     }
 
     // The priority of an inside transition with these marks, by the record before the move: position by position, the last pair with
     // either mark decides.
     pub fn priority(self, prohibited: u8, required: u8) -> u8
-        ensures { λ r. ⌜ r ≡ priority (marksIn prohibited required) (places (self .word)) ⌝ }
+        ensures { λ r. ⌜ r ≡ priority (marksIn prohibited required) (places (self .code)) ⌝ }
     {
         let mut best = 1;
         let mut p = 1;
@@ -80,45 +80,45 @@ impl Record {
     }
 
     // The record after the pairs of the set have moved to the front.
-    pub fn moved(self, pairs: u8) -> Self
-        ensures { λ r. ⌜ r .word ≡ packed (moved asTheyStood (isMarked pairs) (places (self .word))) ⌝ }
+    pub fn moved(self, mask: u8) -> Self
+        ensures { λ r. ⌜ r .code ≡ packed (moved asTheyStood (isMarked mask) (places (self .code))) ⌝ }
     {
-        let front = self.front(pairs);
-        let rear = self.rear(pairs);
-        Record { word: front + rear }
+        let front = self.front(mask);
+        let rear = self.rear(mask);
+        Record { code: front + rear }
     }
 
-    // The word of the pairs of the set, from the first place on.
-    fn front(self, pairs: u8) -> u32
-        ensures { λ r. ⌜ r ≡ packed (keep (isMarked pairs) (places (self .word))) ⌝ }
+    // The code of the pairs of the set, from the first place on.
+    fn front(self, mask: u8) -> u32
+        ensures { λ r. ⌜ r ≡ packed (keep (isMarked mask) (places (self .code))) ⌝ }
     {
-        let mut word = 0;
+        let mut code = 0;
         let mut p = Record::LIMIT;
         while 0 < p {
             let pair = self.pair_at(Position(p));
-            word = with_pair(word, pair, pair.is_in(pairs));
+            code = with_pair(code, pair, pair.is_in(mask));
             p -= 1;
         }
-        word
+        code
     }
 
-    // The word of the places that are not of the set, up to the last place.
-    fn rear(self, pairs: u8) -> u32
-        ensures { λ r. ⌜ r ≡ base ^ length (keep (isMarked pairs) (places (self .word))) * packed (keep (λ i. not (isMarked pairs i)) (places (self .word))) ⌝ }
+    // The code of the places that are not of the set, up to the last place.
+    fn rear(self, mask: u8) -> u32
+        ensures { λ r. ⌜ r ≡ base ^ length (keep (isMarked mask) (places (self .code))) * packed (keep (λ i. not (isMarked mask i)) (places (self .code))) ⌝ }
     {
-        let mut word = 0;
+        let mut code = 0;
         let mut p = 1;
         while p <= Record::LIMIT {
             let pair = self.pair_at(Position(p));
-            word = with_last(word, pair, !pair.is_in(pairs));
+            code = with_last(code, pair, !pair.is_in(mask));
             p += 1;
         }
-        word
+        code
     }
 
     // The pair numbers read as one decimal number; 0 where there is none.
     pub fn number(self) -> u32
-        ensures { λ r. ⌜ r ≡ decimal (pairsIn (self .word)) ⌝ }
+        ensures { λ r. ⌜ r ≡ decimal (pairsIn (self .code)) ⌝ }
     {
         let mut number = 0;
         let mut p = 1;
@@ -141,23 +141,23 @@ fn decided(best: u8, at: Position, odd: bool, even: bool) -> u8
     if even { 2 * at.0 } else { best }
 }
 
-// The word with the pair in front, where it goes there.
-fn with_pair(word: u32, pair: PairNumber, goes: bool) -> u32
-    requires { ⌜ (word < 32768) × (pair .0 < base) ⌝ }
-    ensures { λ r. ⌜ r ≡ pick goes (pair .0 + base * word) word ⌝ }
+// The code with the pair in front, where it goes there.
+fn with_pair(code: u32, pair: PairNumber, goes: bool) -> u32
+    requires { ⌜ (code < 32768) × (pair .0 < base) ⌝ }
+    ensures { λ r. ⌜ r ≡ pick goes (pair .0 + base * code) code ⌝ }
 {
-    if goes { pair.0 as u32 + 8 * word } else { word }
+    if goes { pair.0 as u32 + 8 * code } else { code }
 }
 
-// The word with the pair in the last place, the others one place nearer to the front, where it goes there.
-fn with_last(word: u32, pair: PairNumber, goes: bool) -> u32
-    requires { ⌜ (word < 262144) × (pair .0 < base) ⌝ }
-    ensures { λ r. ⌜ r ≡ pick goes (word / base + 32768 * pair .0) word ⌝ }
+// The code with the pair in the last place, the others one place nearer to the front, where it goes there.
+fn with_last(code: u32, pair: PairNumber, goes: bool) -> u32
+    requires { ⌜ (code < 262144) × (pair .0 < base) ⌝ }
+    ensures { λ r. ⌜ r ≡ pick goes (code / base + 32768 * pair .0) code ⌝ }
 {
     if goes {
-        word / 8 + 32768 * pair.0 as u32
+        code / 8 + 32768 * pair.0 as u32
     } else {
-        word
+        code
     }
 }
 

@@ -22,7 +22,7 @@ use Rattle.rules.specs.Limits.{maxLetters, maxRows, noRow}
 use Rattle.rules.specs.Systems.{System, isInside, Path, here, step, Leads}
 use Rattle.rules.specs.Runs.{Taken, taken, passFrom, strayLetter, isClosedWalk, projected}
 use Rattle.rules.specs.Rows.{Step, Plan, RowsAre, Row, row, Keeper, stepOf, planOf, numberOf, rowsOf, isFull, rowAt, Reached, first-row, next-row, targetNumber, allTargets, allPriorities, sources}
-use Rattle.rules.specs.Tables.{targetFault}
+use Rattle.rules.specs.Tables.{badTargets}
 use Rattle.rules.specs.Answers.{judgedBy, unlessRefused}
 use Rattle.rules.specs.Judges.{paritySystem, priorityAt, parityGood, parityFault, wordFault, parityJudge}
 use Rattle.rules.specs.Constructions.{memoryAfter, largestAlong, Lawful, Faithful}
@@ -34,7 +34,7 @@ use Rattle.rules.proofs.Agreement.{Projects, path-projects, words-agree
 use Rattle.rules.proofs.Exploration.{rows-view}
 use Rattle.rules.proofs.Arrays.{cells-length, cells-at, tabulate-none, joined-none, mapped-at}
 use Rattle.rules.proofs.Steps.{step-missing, step-inside, step-crossing, step-there, step-source, step-present, plan-same}
-use Rattle.rules.proofs.Refusals.{TakenWord, taken-word, parity-none}
+use Rattle.rules.proofs.Refusals.{WordFacts, word-facts, parity-none}
 
 -- ---- the rows
 module _
@@ -198,8 +198,8 @@ module _
             ∙ ap (λ (r : Row M). judgedBy s (r .source) lead l good) (found .first)
 
         -- ---- judges
-        targets-taken : targetFault (length rs) noRow (take (length rs * s .letters) ts) ≡ false
-        targets-taken =
+        targets-good : badTargets (length rs) noRow (take (length rs * s .letters) ts) ≡ false
+        targets-good =
             rw (take-at (allTargets g noRow rs) za (length rs * s .letters) (cells-length (targetNumber g noRow rs) (s .letters) rs))
             (joined-none stray (λ r. tabulate (s .letters) 0 (targetNumber g noRow rs r)) (g .first) rs (λ i l. tabulate-none stray (targetNumber g noRow rs (at i)) (s .letters) 0 (λ a low la. taken-at i a l (omega arith))))
           where
@@ -218,15 +218,15 @@ module _
             parity-none (length rs) (s .letters) ts ps (found .some) (omega (arith, ltb-false c (length rs) not-full)) some-letters most-letters
             (simp length-append (omega (arith, cells-length (targetNumber g noRow rs) (s .letters) rs)))
             (simp length-append (omega (arith, cells-length (λ r a. stepOf s k r a .prio) (s .letters) rs)))
-            targets-taken
+            targets-good
 
         judges-agree : 1 ≤ s .letters → s .letters ≤ maxLetters → (lead l : List ℕ)
             → parityJudge (length rs) (s .letters) ts ps lead l ≡ unlessRefused (wordFault (s .letters) lead l) (judgedBy s start lead l good)
         judges-agree some-letters most-letters lead l =
             rw (parity-taken some-letters most-letters)
-            (by (leb 1 (wordFault (s .letters) lead l)) (λ e. rw e) (λ e. rw e (heard (taken-word (s .letters) lead l (omega (arith, leb-false 1 (wordFault (s .letters) lead l) e))))))
+            (by (leb 1 (wordFault (s .letters) lead l)) (λ e. rw e) (λ e. rw e (heard (word-facts (s .letters) lead l (omega (arith, leb-false 1 (wordFault (s .letters) lead l) e))))))
           where
-            heard : TakenWord (s .letters) lead l → judgedBy P 0 lead l (parityGood (s .letters) ps) ≡ judgedBy s start lead l good
+            heard : WordFacts (s .letters) lead l → judgedBy P 0 lead l (parityGood (s .letters) ps) ≡ judgedBy s start lead l good
             heard w = looped-words-agree lead l (w .some-loop) (w .lead-letters) (w .loop-letters)
 
         pub demand-3 : 1 ≤ s .letters → s .letters ≤ maxLetters → Faithful s start good (length rs) ts ps ss

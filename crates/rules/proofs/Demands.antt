@@ -13,18 +13,18 @@ use Rattle.rules.specs.Limits.{maxRows}
 use Rattle.rules.specs.Refusals as Refusal
 use Rattle.rules.specs.Tables.{tableOf, tableFault, systemOf, recordKeeper, IsOrdering}
 use Rattle.rules.specs.Judges.{satisfies}
-use Rattle.rules.specs.Claims.{tableRows, targets, priorities, sourceStates, exceeds, Agrees, Demands}
+use Rattle.rules.specs.Claims.{tableRows, rowTargets, rowPriorities, sourceStates, exceeds, Agrees, Demands}
 use Rattle.rules.specs.Says.{afterwards, arraysFault, translateFault, TranslateSays, TranslationAgrees, rowArrays}
 use Rattle.rules.proofs.Bools.{or-none, and-parts}
-use Rattle.rules.proofs.Refusals.{first-none, first-zero, when-none, taken-table}
+use Rattle.rules.proofs.Refusals.{first-none, first-zero, when-none, table-facts}
 use Rattle.rules.proofs.Demand3.{demand-3}
 use Rattle.rules.proofs.RabinTables.{rabin-lawful}
 
 agrees : (bs : List ℕ) (c : ℕ) → tableFault bs ≡ 0 → c ≤ maxRows → exceeds bs c ≡ false → (ts ps ss : List ℕ)
-    → Agrees bs (length (tableRows bs c)) (targets bs c ++ ts) (priorities bs c ++ ps) (sourceStates bs c ++ ss)
+    → Agrees bs (length (tableRows bs c)) (rowTargets bs c ++ ts) (rowPriorities bs c ++ ps) (sourceStates bs c ++ ss)
 agrees bs c fault within fits ts ps ss =
     let t = tableOf bs in
-    let ok = taken-table bs fault in
+    let ok = table-facts bs fault in
     let g = demand-3 (systemOf t) (t .start) (recordKeeper t) (satisfies t) (IsOrdering t) (rabin-lawful t) (ok .start-state) c fits within ts ps ss (ok .sizes .some-letters) (ok .sizes .most-letters) in
     record {
       words = g .words;
@@ -62,9 +62,9 @@ says-agrees bs c ts ts′ ps ps′ ss ss′ es es′ number count says z =
     let u = first-none (eqb c 0 || bad) 6 (when full Refusal.full) (r .1) in
     let v = or-none (eqb c 0) bad (u .0) in
     let w = or-none (ltb maxRows c) (ltb (length ts) k || (ltb (length ps) k || (ltb (length ss) c || ltb (length es) c))) (v .1) in
-    let all = agrees bs c (r .0) (ltb-false maxRows c (w .0)) (when-none full 7 (u .1)) (behind k (targets bs c) ts) (behind k (priorities bs c) ps) (behind c (sourceStates bs c) ss) in
-    let at-ts = after-success number k (targets bs c) ts ts′ z (says .target-array) in
-    let at-ps = after-success number k (priorities bs c) ps ps′ z (says .priority-array) in
-    let at-ss = after-success number c (sourceStates bs c) ss ss′ z (says .state-array) in
+    let all = agrees bs c (r .0) (ltb-false maxRows c (w .0)) (when-none full 7 (u .1)) (behind k (rowTargets bs c) ts) (behind k (rowPriorities bs c) ps) (behind c (sourceStates bs c) ss) in
+    let at-ts = after-success number k (rowTargets bs c) ts ts′ z (says .target-array) in
+    let at-ps = after-success number k (rowPriorities bs c) ps ps′ z (says .priority-array) in
+    let at-ss = after-success number c (sourceStates bs c) ss ss′ z (says .source-array) in
     let some : length (tableRows bs c) ≡ count = sym (rw z at (says .count)) in
     rw (at-ts, at-ps, at-ss, some) at all

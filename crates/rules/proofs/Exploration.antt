@@ -1,8 +1,8 @@
 -- What the exploration finds, over any plan whose sameness of rows is equality.
 --     place-*        the place of the first element that passes a test
 --     Found          what holds of the rows found at a moment of the exploration
---     found-met      one transition more keeps it
---     met-longer, met-row, by-next, by-grows     what a transition, and letters, leave of the rows found
+--     found-with      one transition more keeps it
+--     with-longer, with-row, by-next, by-grows     what a transition, and letters, leave of the rows found
 --     from-on, from-stop     a row more is read, or none
 --     explored       at the end all rows have been read, unless there are too many
 --     rows-view      the rows found are exactly the reachable ones, each once, in order of discovery; full exactly if more than c are reachable
@@ -16,7 +16,7 @@ use lib.Dec.{ltb, leb}
 use lib.ListN.{length, getD, length-append, List·getD-append}
 use lib.Seq.{getD-append-seam}
 use borrow.Author.Tests.{ltb-true, ltb-false, leb-true, leb-false}
-use Rattle.rules.specs.Rows.{Plan, SameIsEqual, placeOf, numberOf, met, foundBy, foundFrom, rowsOf, isFull, rowAt, Reached, first-row, next-row, Distinct, Earlier, Discovered, MoreThan, RowsAre}
+use Rattle.rules.specs.Rows.{Plan, SameIsEqual, placeOf, numberOf, rowsWith, foundBy, foundFrom, rowsOf, isFull, rowAt, Reached, first-row, next-row, Distinct, Earlier, Discovered, MoreThan, RowsAre}
 use Rattle.rules.proofs.Bools.{by, clash, and-both, and-parts}
 use Rattle.rules.proofs.Pigeonhole.{pigeonhole}
 
@@ -171,19 +171,19 @@ module _ {A : Type 0} (g : Plan A) (law : SameIsEqual g) where
               λ k pos lk. by (ltb k (length rs)) (λ e. let b = ltb-true k (length rs) e in discovered-more k b (f .ordered k pos b)) (λ e. let z : k ≡ length rs = omega (arith, ltb-false k (length rs) e, more-length) in rw z (discovered-last f l la t to));
         }
 
-  found-met : {i a : ℕ} {rs : List A} → Found i a rs → i < length rs → a < g .letters → Found i (suc a) (met g rs (rowAt g rs i) a)
-  found-met {i} {a} {rs} f l la =
+  found-with : {i a : ℕ} {rs : List A} → Found i a rs → i < length rs → a < g .letters → Found i (suc a) (rowsWith g rs (rowAt g rs i) a)
+  found-with {i} {a} {rs} f l la =
       by (g .step (rowAt g rs i) a .there && leb (length rs) (numberOf g (g .step (rowAt g rs i) a .to) rs)) added known
     where
       x : A
       x = g .step (rowAt g rs i) a .to
 
-      added : g .step (rowAt g rs i) a .there && leb (length rs) (numberOf g x rs) ≡ true → Found i (suc a) (met g rs (rowAt g rs i) a)
+      added : g .step (rowAt g rs i) a .there && leb (length rs) (numberOf g x rs) ≡ true → Found i (suc a) (rowsWith g rs (rowAt g rs i) a)
       added e =
           let r = and-parts (g .step (rowAt g rs i) a .there) (leb (length rs) (numberOf g x rs)) e in
           rw e (found-more rs x (leb-true (length rs) (numberOf g x rs) (r .1)) f l la (r .0) refl)
 
-      known : g .step (rowAt g rs i) a .there && leb (length rs) (numberOf g x rs) ≡ false → Found i (suc a) (met g rs (rowAt g rs i) a)
+      known : g .step (rowAt g rs i) a .there && leb (length rs) (numberOf g x rs) ≡ false → Found i (suc a) (rowsWith g rs (rowAt g rs i) a)
       known e =
           rw e
           (record { some = f .some; front = f .front; once = f .once; closed = λ j b h lb lj t. earlier-next h (λ h′. f .closed j b h′ lb lj t) (λ p q. rw (p, q) (now (rw (p, q) at t))); ordered = f .ordered })
@@ -196,36 +196,36 @@ module _ {A : Type 0} (g : Plan A) (law : SameIsEqual g) where
               (λ h. leb-false (length rs) (numberOf g x rs) h)
 
   -- ---- the whole exploration
-  pub met-longer : (rs : List A) (r : A) (a : ℕ) → length rs ≤ length (met g rs r a)
-  met-longer rs r a =
+  pub with-longer : (rs : List A) (r : A) (a : ℕ) → length rs ≤ length (rowsWith g rs r a)
+  with-longer rs r a =
       by
       (g .step r a .there && leb (length rs) (numberOf g (g .step r a .to) rs))
       (λ e. rw e (simp length-append (omega arith)))
       (λ e. rw e (omega arith))
 
-  pub met-row : (rs : List A) (r : A) (a i : ℕ) → i < length rs → rowAt g (met g rs r a) i ≡ rowAt g rs i
-  met-row rs r a i l =
+  pub with-row : (rs : List A) (r : A) (a i : ℕ) → i < length rs → rowAt g (rowsWith g rs r a) i ≡ rowAt g rs i
+  with-row rs r a i l =
       by
       (g .step r a .there && leb (length rs) (numberOf g (g .step r a .to) rs))
       (λ e. rw e (List·getD-append rs (g .step r a .to ∷ []) (g .first) i l))
       (λ e. rw e)
 
   -- the letters below a, then one more
-  pub by-next : (n a : ℕ) (r : A) (rs : List A) → foundBy (suc n) a g r rs ≡ met g (foundBy n a g r rs) r (a + n)
+  pub by-next : (n a : ℕ) (r : A) (rs : List A) → foundBy (suc n) a g r rs ≡ rowsWith g (foundBy n a g r rs) r (a + n)
   by-next zero a r rs = let e : a + 0 ≡ a = omega arith in rw e
-  by-next (suc n) a r rs = let e : suc a + n ≡ a + suc n = omega arith in by-next n (suc a) r (met g rs r a) ∙ rw e
+  by-next (suc n) a r rs = let e : suc a + n ≡ a + suc n = omega arith in by-next n (suc a) r (rowsWith g rs r a) ∙ rw e
 
   pub by-grows : (d n a : ℕ) (r : A) (rs : List A) → length (foundBy n a g r rs) ≤ length (foundBy (d + n) a g r rs)
   by-grows zero n a r rs = let e : 0 + n ≡ n = omega arith in rw e (omega arith)
   by-grows (suc d) n a r rs =
       let e : suc d + n ≡ suc (d + n) = omega arith in
-      rw (e, by-next (d + n) a r rs) (omega (arith, by-grows d n a r rs, met-longer (foundBy (d + n) a g r rs) r (a + (d + n))))
+      rw (e, by-next (d + n) a r rs) (omega (arith, by-grows d n a r rs, with-longer (foundBy (d + n) a g r rs) r (a + (d + n))))
 
   found-by : (n : ℕ) {i a : ℕ} {rs : List A} (r : A) → Found i a rs → rowAt g rs i ≡ r → i < length rs → a + n ≡ g .letters
       → Found i (g .letters) (foundBy n a g r rs)
   found-by zero {i} {a} {rs} r f e l h = let z : a ≡ g .letters = omega arith in rw z at f
   found-by (suc n) {i} {a} {rs} r f e l h =
-      found-by n r (rw e at (found-met f l (omega arith))) (met-row rs r a i l ∙ e) (omega (arith, met-longer rs r a)) (omega arith)
+      found-by n r (rw e at (found-with f l (omega arith))) (with-row rs r a i l ∙ e) (omega (arith, with-longer rs r a)) (omega arith)
 
   found-next : {i : ℕ} {rs : List A} → Found i (g .letters) rs → Found (suc i) 0 rs
   found-next {i} f =

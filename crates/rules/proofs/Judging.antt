@@ -13,7 +13,7 @@ use Rattle.rules.specs.Basics.{pick, SameSet, repeated}
 use Rattle.rules.specs.Systems.{System, Path}
 use Rattle.rules.specs.Runs.{strayLetter, At, Taken, passFrom, turn, ReadsOn, recurring, Stop, MeetsMissing}
 use Rattle.rules.specs.Answers.{accepts, rejects, stops, judgedBy}
-use Rattle.rules.proofs.Runs.{repeated-more, repeated-length, stop-after, stops-view, turns-path, round-back, steady-from, Endless, endless-settled, endless-window}
+use Rattle.rules.proofs.Runs.{repeated-more, repeated-length, stop-after, stops-view, turns-path, round-back, steady-from, Endless, endless-run, endless-window}
 
 -- a missing transition, met in another part of the same word
 stop-within : (s : System) {p : ℕ} {w v : List ℕ} → w ≡ v → Stop s p w → Stop s p v
@@ -32,7 +32,7 @@ stop-within s e x =
 module _ (s : System) (q : ℕ) (lead l : List ℕ) (good : List Taken → Bool) where
   -- a run that does not stop
   pub judged-endless : Endless s q lead l → judgedBy s q lead l good ≡ pick (good (recurring s q lead l)) accepts rejects
-  judged-endless e = rw (ap (λ (z : At). z .stopped) (endless-settled s q lead l e))
+  judged-endless e = rw (ap (λ (z : At). z .stopped) (endless-run s q lead l e))
 
   module _ (is-state : q < s .states) (lead-ok : strayLetter (s .letters) lead ≡ false) (l-ok : strayLetter (s .letters) l ≡ false) where
     pub judged-missing : (i : ℕ) → MeetsMissing s q lead l i → judgedBy s q lead l good ≡ stops i

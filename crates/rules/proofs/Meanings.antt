@@ -14,7 +14,7 @@ use lib.ListN.{length, getD}
 use Rattle.rules.specs.Basics.{pick, firstOf, when, tabulate}
 use Rattle.rules.specs.Refusals as Refusal
 use Rattle.rules.specs.Systems.{System, componentOf, ComponentsAre}
-use Rattle.rules.specs.Runs.{Taken, strayLetter, settled, recurring, MeetsMissing}
+use Rattle.rules.specs.Runs.{Taken, strayLetter, longRun, recurring, MeetsMissing}
 use Rattle.rules.specs.Answers.{Answer, accepts, rejects, stops, judgedBy, JudgedAs}
 use Rattle.rules.specs.Rows.{Row}
 use Rattle.rules.specs.Tables.{Table, tableOf, tableFault, systemOf, marksOf, recordKeeper, tablePlan, StepIs}
@@ -29,7 +29,7 @@ use Rattle.rules.proofs.Appearance.{priority-is}
 use Rattle.rules.proofs.Numbers.{record-determined}
 use Rattle.rules.proofs.RabinTables.{table-rows, reached-ordering}
 use Rattle.rules.proofs.Filling.{over-at}
-use Rattle.rules.proofs.Refusals.{first-zero, when-none, fault-below, taken-table, taken-word, taken-parity}
+use Rattle.rules.proofs.Refusals.{first-zero, when-none, fault-below, table-facts, word-facts, parity-facts}
 
 -- ---- components
 component-state : (s : System) (q : ℕ) → q < s .states → componentOf s q < s .states
@@ -90,43 +90,43 @@ unfolding translateFault
 translation-means bs c o o′ number rows says =
     let t = tableOf bs in
     let found = table-rows t c in
-    let short = areShort c (t .letters) (length (o .targets)) (length (o .priorities)) (length (o .states)) (length (o .records)) in
+    let short = areShort c (t .letters) (length (o .targets)) (length (o .priorities)) (length (o .sources)) (length (o .records)) in
     record {
       full = λ z. found .full .0 (last-fault (tableFault bs) short (exceeds bs c) (fault-below bs) (sym (says .refusal) ∙ z));
       whole = λ z m. true≢false (sym (found .full .1 m) ∙ no-fault (tableFault bs) (when short Refusal.arrays) (exceeds bs c) (sym (says .refusal) ∙ z));
       rows = found;
       steps = step-is t;
-      orderings = λ f h. reached-ordering t (taken-table bs f .start-state) h;
-      numbers = λ f h g e. let k = taken-table bs f in record-determined t (omega (arith, k .sizes .most-pairs)) _ _ _ _ (reached-ordering t (k .start-state) h) (reached-ordering t (k .start-state) g) e;
+      orderings = λ f h. reached-ordering t (table-facts bs f .start-state) h;
+      numbers = λ f h g e. let k = table-facts bs f in record-determined t (omega (arith, k .sizes .most-pairs)) _ _ _ _ (reached-ordering t (k .start-state) h) (reached-ordering t (k .start-state) g) e;
     }
 
 -- ---- answers
 stop-is : (b good : Bool) (n i : ℕ) → (pick b (stops n) (pick good accepts rejects) ≡ stops i) ↔ ((b ≡ true) × (n ≡ i))
 stop-is true good n i = (λ e. (refl, ap (λ (x : Answer). x .value) e), λ r. ap stops (r .1))
-stop-is false true n i = (λ e. absurd (omega (arith, ap (λ (x : Answer). x .word) e)), λ r. absurd (false≢true (r .0)))
-stop-is false false n i = (λ e. absurd (omega (arith, ap (λ (x : Answer). x .word) e)), λ r. absurd (false≢true (r .0)))
+stop-is false true n i = (λ e. absurd (omega (arith, ap (λ (x : Answer). x .kind) e)), λ r. absurd (false≢true (r .0)))
+stop-is false false n i = (λ e. absurd (omega (arith, ap (λ (x : Answer). x .kind) e)), λ r. absurd (false≢true (r .0)))
 
 module _ (s : System) (q : ℕ) (lead l : List ℕ) (good : List Taken → Bool) (is-state : q < s .states) (lead-ok : strayLetter (s .letters) lead ≡ false) (l-ok : strayLetter (s .letters) l ≡ false) where
   pub judged-as : JudgedAs s q lead l good (judgedBy s q lead l good)
   judged-as =
       record {
-        stop = λ i. let v = view i in let x = stop-is (settled s q lead l .stopped) (good (recurring s q lead l)) (settled s q lead l .read) i in (λ e. v .0 (x .0 e), λ m. x .1 (v .1 m));
+        stop = λ i. let v = view i in let x = stop-is (longRun s q lead l .stopped) (good (recurring s q lead l)) (longRun s q lead l .read) i in (λ e. v .0 (x .0 e), λ m. x .1 (v .1 m));
         verdict = λ never. let e = going never in record { recurring = recurring s q lead l; recurs = recurs-view s q lead l is-state lead-ok l-ok e; decided = rw e };
       }
     where
-      view : (i : ℕ) → ((settled s q lead l .stopped ≡ true) × (settled s q lead l .read ≡ i)) ↔ MeetsMissing s q lead l i
+      view : (i : ℕ) → ((longRun s q lead l .stopped ≡ true) × (longRun s q lead l .read ≡ i)) ↔ MeetsMissing s q lead l i
       view = stops-view s q lead l is-state lead-ok l-ok
 
-      going : ((i : ℕ) → MeetsMissing s q lead l i → ⊥) → settled s q lead l .stopped ≡ false
-      going never = by (settled s q lead l .stopped) (λ e. absurd (never (settled s q lead l .read) (view (settled s q lead l .read) .0 (e, refl)))) (λ e. e)
+      going : ((i : ℕ) → MeetsMissing s q lead l i → ⊥) → longRun s q lead l .stopped ≡ false
+      going never = by (longRun s q lead l .stopped) (λ e. absurd (never (longRun s q lead l .read) (view (longRun s q lead l .read) .0 (e, refl)))) (λ e. e)
 
 pub rabin-means : (bs lead l : List ℕ) (x : Answer) → RabinSays bs lead l x → RabinMeans bs lead l x
 rabin-means bs lead l x says f w =
     let t = tableOf bs in
-    let k = taken-word (t .letters) lead l w in
-    rw says (rw (f, w) (judged-as (systemOf t) (t .start) lead l (satisfies t) (taken-table bs f .start-state) (k .lead-letters) (k .loop-letters)))
+    let k = word-facts (t .letters) lead l w in
+    rw says (rw (f, w) (judged-as (systemOf t) (t .start) lead l (satisfies t) (table-facts bs f .start-state) (k .lead-letters) (k .loop-letters)))
 
 pub parity-means : (n m : ℕ) (ts ps lead l : List ℕ) (x : Answer) → ParitySays n m ts ps lead l x → ParityMeans n m ts ps lead l x
 parity-means n m ts ps lead l x says f w =
-    let k = taken-word m lead l w in
-    rw says (rw (f, w) (judged-as (paritySystem n m ts) 0 lead l (parityGood m ps) (taken-parity n m ts ps f .some-rows) (k .lead-letters) (k .loop-letters)))
+    let k = word-facts m lead l w in
+    rw says (rw (f, w) (judged-as (paritySystem n m ts) 0 lead l (parityGood m ps) (parity-facts n m ts ps f .some-rows) (k .lead-letters) (k .loop-letters)))

@@ -24,8 +24,8 @@ use Rattle.rules.specs.Tables.{Table, prohibits, requires, systemOf, cou
 use Rattle.rules.specs.Judges.{satisfiesPair, satisfies}
 use Rattle.rules.proofs.Bools.{by, and-both, and-parts, bool-ext}
 use Rattle.rules.proofs.Sets.{any-map, any-find, any-intro, below-find, below-intro}
-use Rattle.rules.proofs.Reach.{inside-parts, met-view, met-same}
-use Rattle.rules.proofs.Walks.{closed-met}
+use Rattle.rules.proofs.Reach.{inside-parts, within-view, within-same}
+use Rattle.rules.proofs.Walks.{closed-within}
 use Rattle.rules.proofs.Appearance.{kept-occurs, keep-free, occurs-none, none-occurs, moved-occurs, closed-walk}
 use Rattle.rules.proofs.Exploration.{rows-view}
 use Rattle.rules.proofs.Steps.{plan-same}
@@ -89,7 +89,7 @@ module _ (t : Table) where
 
   pub ordering-together : (p q : ℕ) (o : List ℕ) → together s p q ≡ true → IsOrdering t p o → IsOrdering t q o
   ordering-together p q o h f i =
-      f i ∙ ap (λ (b : Bool). pick (leb 1 i && (leb i (t .pairs) && b)) 1 0) (met-same s (countsBy t i) p q h)
+      f i ∙ ap (λ (b : Bool). pick (leb 1 i && (leb i (t .pairs) && b)) 1 0) (within-same s (countsBy t i) p q h)
 
   pub moved-ordering : (q a : ℕ) (o : List ℕ) → isInside s q a ≡ true → IsOrdering t q o
       → IsOrdering t (s .go q a) (moved asTheyStood (prohibits t q a) o)
@@ -139,7 +139,7 @@ module _ (t : Table) where
   pair-counts q a i w p h =
       let xs = passFrom s q (a ∷ w) in
       let r = and-parts (not (any (λ x. prohibits t (x .from) (x .by) i) xs)) (any (λ x. requires t (x .from) (x .by) i) xs) h in
-      met-view s (countsBy t i) q .1 (closed-met s (countsBy t i) p (r .1))
+      within-view s (countsBy t i) q .1 (closed-within s (countsBy t i) p (r .1))
 
   -- some pair of an ordering is satisfied exactly if the table is
   some-satisfied : (q a : ℕ) (w o : List ℕ) → Path s q (a ∷ w) q → IsOrdering t q o

@@ -5,9 +5,9 @@
 --     together-view                     two states share a component exactly if a path leads from each to the other
 --     together-refl, together-sym, together-trans     sharing a component is an equivalence
 --     component-together, component-least, component-same     componentOf is the smallest state of the component, and the same for all of it
---     together-component, inside-component, met-component     what shares a component, is inside and is met, by the numbers of components alone
+--     together-component, inside-component, within-component     what shares a component, is inside and is met, by the numbers of components alone
 --     inside-of-return                  a transition with a way back is inside
---     met-view, met-same                what some inside transition of a component meets, and that it is the same for the whole component
+--     within-view, within-same                what some inside transition of a component meets, and that it is the same for the whole component
 use mathlib.Core.Path.{_≡_, refl, sym}
 use mathlib.Core.Logic.{_↔_}
 use mathlib.Core.Bool.{Bool, true, _&&_}
@@ -18,7 +18,7 @@ use native.Mathlib.Omega.{arith}
 use lib.Dec.{eqb, ltb}
 use borrow.Author.Tests.{eqb-true, eqb-false, eq-eqb, ltb-true, lt-ltb}
 use Rattle.rules.specs.Basics.{anyBelow}
-use Rattle.rules.specs.Systems.{System, linked, via, reaches, together, componentOf, isInside, metWithin, Path, here, step, Leads}
+use Rattle.rules.specs.Systems.{System, linked, via, reaches, together, componentOf, isInside, someWithin, Path, here, step, Leads}
 use Rattle.rules.proofs.Bools.{by, or-cases, or-left, or-right, and-both, and-parts, bool-ext}
 use Rattle.rules.proofs.Sets.{below-find, below-intro, below-same, least-passes, least-least}
 
@@ -148,10 +148,10 @@ module _ (s : System) where
       (λ e. rw (e, together-component q (s .go q a) l (ltb-true (s .go q a) (s .states) e)))
       (λ e. rw e)
 
-  pub met-component : (b : ℕ → ℕ → Bool) (q : ℕ) → q < s .states
-      → metWithin s b q ≡ anyBelow (s .states) (λ p. eqb (componentOf s p) (componentOf s q) && anyBelow (s .letters) (λ a. isInside s p a && b p a))
-  unfolding metWithin
-  met-component b q l = below-same (s .states) _ _ (λ p lp. rw (together-component q p l lp))
+  pub within-component : (b : ℕ → ℕ → Bool) (q : ℕ) → q < s .states
+      → someWithin s b q ≡ anyBelow (s .states) (λ p. eqb (componentOf s p) (componentOf s q) && anyBelow (s .letters) (λ a. isInside s p a && b p a))
+  unfolding someWithin
+  within-component b q l = below-same (s .states) _ _ (λ p lp. rw (together-component q p l lp))
 
   -- inside transitions
   pub inside-of-return : {p a : ℕ} {w : List ℕ} → a < s .letters → s .go p a < s .states → Path s (s .go p a) w p → isInside s p a ≡ true
@@ -165,7 +165,7 @@ module _ (s : System) where
   inside-parts p a h =
       let r = and-parts (ltb (s .go p a) (s .states)) (together s p (s .go p a)) h in (ltb-true (s .go p a) (s .states) (r .0), r .1)
 
-  pub record Met (b : ℕ → ℕ → Bool) (q : ℕ) : Type 0 where
+  pub record Within (b : ℕ → ℕ → Bool) (q : ℕ) : Type 0 where
     pub state : ℕ
     pub letter : ℕ
     pub is-state : state < s .states
@@ -174,9 +174,9 @@ module _ (s : System) where
     pub inside : isInside s state letter ≡ true
     pub passes : b state letter ≡ true
 
-  pub met-view : (b : ℕ → ℕ → Bool) (q : ℕ) → (metWithin s b q ≡ true) ↔ Met b q
-  unfolding metWithin
-  met-view b q =
+  pub within-view : (b : ℕ → ℕ → Bool) (q : ℕ) → (someWithin s b q ≡ true) ↔ Within b q
+  unfolding someWithin
+  within-view b q =
       (found, λ m. below-intro (s .states) atState (m .state) (m .is-state) (and-both (together s q (m .state)) (anyBelow (s .letters) (byLetter (m .state))) (m .near) (below-intro (s .letters) (byLetter (m .state)) (m .letter) (m .is-letter) (and-both (isInside s (m .state) (m .letter)) (b (m .state) (m .letter)) (m .inside) (m .passes)))))
     where
       byLetter : ℕ → ℕ → Bool
@@ -185,7 +185,7 @@ module _ (s : System) where
       atState : ℕ → Bool
       atState p = together s q p && anyBelow (s .letters) (byLetter p)
 
-      found : anyBelow (s .states) atState ≡ true → Met b q
+      found : anyBelow (s .states) atState ≡ true → Within b q
       found h =
           let f = below-find (s .states) atState h in
           let r = and-parts (together s q (f .0)) (anyBelow (s .letters) (byLetter (f .0))) (f .2) in
@@ -193,11 +193,11 @@ module _ (s : System) where
           let i = and-parts (isInside s (f .0) (g .0)) (b (f .0) (g .0)) (g .2) in
           record { state = f .0; letter = g .0; is-state = f .1; is-letter = g .1; near = r .0; inside = i .0; passes = i .1 }
 
-  pub met-same : (b : ℕ → ℕ → Bool) (p q : ℕ) → together s p q ≡ true → metWithin s b p ≡ metWithin s b q
-  met-same b p q t = bool-ext (metWithin s b p) (metWithin s b q) (carried p q (together-sym p q t)) (carried q p t)
+  pub within-same : (b : ℕ → ℕ → Bool) (p q : ℕ) → together s p q ≡ true → someWithin s b p ≡ someWithin s b q
+  within-same b p q t = bool-ext (someWithin s b p) (someWithin s b q) (carried p q (together-sym p q t)) (carried q p t)
     where
-      carried : (x y : ℕ) → together s y x ≡ true → metWithin s b x ≡ true → metWithin s b y ≡ true
+      carried : (x y : ℕ) → together s y x ≡ true → someWithin s b x ≡ true → someWithin s b y ≡ true
       carried x y e h =
-          let m = met-view b x .0 h in
-          met-view b y .1
+          let m = within-view b x .0 h in
+          within-view b y .1
           (record { state = m .state; letter = m .letter; is-state = m .is-state; is-letter = m .is-letter; near = together-trans y x (m .state) e (m .near); inside = m .inside; passes = m .passes })

@@ -1,12 +1,12 @@
 -- What follows where nothing is refused.
 --     first-none, first-zero, when-none     a chain of refusals that gives none
 --     in-range         a size from 1 to the most, and what is tested behind it
---     taken-sizes      what holds of sizes that are taken
---     taken-table      what holds of a table that is taken
---     taken-word       what holds of a word that is taken
---     taken-parity     what holds of a parity table that is taken
+--     size-facts      what holds of sizes that are taken
+--     table-facts      what holds of a table that is taken
+--     word-facts       what holds of a word that is taken
+--     parity-facts     what holds of a parity table that is taken
 --     parity-none      a parity table with nothing to refuse
---     taken-arrays     what holds of a capacity and of lent arrays that are taken, and arrays-taken the other way
+--     array-facts     what holds of a capacity and of lent arrays that are taken, and arrays-enough the other way
 --     fault-below      the refusals of a table are those up to the marks'
 use mathlib.Core.Path.{_≡_, refl}
 use mathlib.Core.Bool.{Bool, true, false, _||_}
@@ -21,7 +21,7 @@ use Rattle.rules.specs.Basics.{firstOf, when}
 use Rattle.rules.specs.Limits.{maxStates, maxLetters, maxPairs, maxRows, maxPiece, headerSize, noState, noRow}
 use Rattle.rules.specs.Refusals as Refusal
 use Rattle.rules.specs.Runs.{strayLetter}
-use Rattle.rules.specs.Tables.{tableOf, tableFault, sizesFault, tableLength, targetFault, marksFault}
+use Rattle.rules.specs.Tables.{tableOf, tableFault, badSizes, tableLength, badTargets, badMarks}
 use Rattle.rules.specs.Judges.{wordFault, parityFault}
 use Rattle.rules.specs.Says.{areShort}
 use Rattle.rules.proofs.Bools.{or-none}
@@ -48,7 +48,7 @@ in-range most n later h =
     let n0 = eqb-false n 0 (a .0) in
     (omega arith, ltb-false most n (b .0), b .1)
 
-pub record TakenSizes (n m k : ℕ) : Type 0 where
+pub record SizeFacts (n m k : ℕ) : Type 0 where
   pub some-states : 1 ≤ n
   pub most-states : n ≤ maxStates
   pub some-letters : 1 ≤ m
@@ -56,8 +56,8 @@ pub record TakenSizes (n m k : ℕ) : Type 0 where
   pub most-pairs : k ≤ maxPairs
   pub most-cells : n * m ≤ maxStates * maxLetters
 
-pub taken-sizes : (n m k : ℕ) → sizesFault n m k ≡ false → TakenSizes n m k
-taken-sizes n m k h =
+pub size-facts : (n m k : ℕ) → badSizes n m k ≡ false → SizeFacts n m k
+size-facts n m k h =
     let a = in-range maxStates n (eqb m 0 || (ltb maxLetters m || ltb maxPairs k)) h in
     let b = in-range maxLetters m (ltb maxPairs k) (a .2) in
     record {
@@ -70,7 +70,7 @@ taken-sizes n m k h =
     }
 
 -- ---- a capacity and lent arrays that are taken
-pub record TakenArrays (c m a b d e : ℕ) : Type 0 where
+pub record ArrayFacts (c m a b d e : ℕ) : Type 0 where
   pub some-rows : 1 ≤ c
   pub most-rows : c ≤ maxRows
   pub target-room : c * m ≤ a
@@ -78,8 +78,8 @@ pub record TakenArrays (c m a b d e : ℕ) : Type 0 where
   pub state-room : c ≤ d
   pub record-room : c ≤ e
 
-pub taken-arrays : (c m a b d e : ℕ) → areShort c m a b d e ≡ false → TakenArrays c m a b d e
-taken-arrays c m a b d e h =
+pub array-facts : (c m a b d e : ℕ) → areShort c m a b d e ≡ false → ArrayFacts c m a b d e
+array-facts c m a b d e h =
     let rows = ltb d c || ltb e c in
     let p = in-range maxRows c (ltb a (c * m) || (ltb b (c * m) || rows)) h in
     let q = or-none (ltb a (c * m)) (ltb b (c * m) || rows) (p .2) in
@@ -94,57 +94,57 @@ taken-arrays c m a b d e h =
       record-room = ltb-false e c (s .1);
     }
 
-pub arrays-taken : {c m a b d e : ℕ} → TakenArrays c m a b d e → areShort c m a b d e ≡ false
-arrays-taken {c} {m} {a} {b} {d} {e} t =
+pub arrays-enough : {c m a b d e : ℕ} → ArrayFacts c m a b d e → areShort c m a b d e ≡ false
+arrays-enough {c} {m} {a} {b} {d} {e} t =
     rw
     (ne-eqb c 0 (λ z. omega (arith, t .some-rows)), le-ltb maxRows c (t .most-rows), le-ltb a (c * m) (t .target-room), le-ltb b (c * m) (t .priority-room), le-ltb d c (t .state-room), le-ltb e c (t .record-room))
 
 -- ---- a table that is taken
-pub record TakenTable (bs : List ℕ) : Type 0 where
-  pub sizes : TakenSizes (tableOf bs .states) (tableOf bs .letters) (tableOf bs .pairs)
+pub record TableFacts (bs : List ℕ) : Type 0 where
+  pub sizes : SizeFacts (tableOf bs .states) (tableOf bs .letters) (tableOf bs .pairs)
   pub exact : length bs ≡ tableLength (tableOf bs .states) (tableOf bs .letters)
   pub start-state : tableOf bs .start < tableOf bs .states
-  pub targets-taken : targetFault (tableOf bs .states) noState (tableOf bs .targets) ≡ false
-  pub marks-taken : marksFault (tableOf bs .pairs) (tableOf bs .targets) (tableOf bs .marks) ≡ false
+  pub targets-good : badTargets (tableOf bs .states) noState (tableOf bs .targets) ≡ false
+  pub marks-good : badMarks (tableOf bs .pairs) (tableOf bs .targets) (tableOf bs .marks) ≡ false
 
-pub taken-table : (bs : List ℕ) → tableFault bs ≡ 0 → TakenTable bs
+pub table-facts : (bs : List ℕ) → tableFault bs ≡ 0 → TableFacts bs
 unfolding tableFault
-taken-table bs h =
+table-facts bs h =
     let t = tableOf bs in
     let n = t .states in
     let m = t .letters in
     let l = tableLength n m in
-    let marks = when (marksFault (t .pairs) (t .targets) (t .marks)) Refusal.marks in
-    let targets = firstOf (when (targetFault n noState (t .targets)) Refusal.target) marks in
+    let marks = when (badMarks (t .pairs) (t .targets) (t .marks)) Refusal.marks in
+    let targets = firstOf (when (badTargets n noState (t .targets)) Refusal.target) marks in
     let start = firstOf (when (leb n (t .start)) Refusal.start) targets in
     let long = firstOf (when (ltb l (length bs)) Refusal.long) start in
     let short = firstOf (when (ltb (length bs) l) Refusal.short) long in
-    let sizes = firstOf (when (sizesFault n m (t .pairs)) Refusal.sizes) short in
+    let sizes = firstOf (when (badSizes n m (t .pairs)) Refusal.sizes) short in
     let a = first-none (ltb (length bs) 4) 0 sizes h in
-    let b = first-none (sizesFault n m (t .pairs)) 1 short (a .1) in
+    let b = first-none (badSizes n m (t .pairs)) 1 short (a .1) in
     let c = first-none (ltb (length bs) l) 0 long (b .1) in
     let d = first-none (ltb l (length bs)) 2 start (c .1) in
     let e = first-none (leb n (t .start)) 3 targets (d .1) in
-    let f = first-none (targetFault n noState (t .targets)) 4 marks (e .1) in
-    let g = when-none (marksFault (t .pairs) (t .targets) (t .marks)) 5 (f .1) in
+    let f = first-none (badTargets n noState (t .targets)) 4 marks (e .1) in
+    let g = when-none (badMarks (t .pairs) (t .targets) (t .marks)) 5 (f .1) in
     record {
-      sizes = taken-sizes n m (t .pairs) (b .0);
+      sizes = size-facts n m (t .pairs) (b .0);
       exact = le-antisymm (ltb-false l (length bs) (d .0)) (ltb-false (length bs) l (c .0));
       start-state = leb-false n (t .start) (e .0);
-      targets-taken = f .0;
-      marks-taken = g;
+      targets-good = f .0;
+      marks-good = g;
     }
 
 -- ---- a word that is taken
-pub record TakenWord (m : ℕ) (lead l : List ℕ) : Type 0 where
+pub record WordFacts (m : ℕ) (lead l : List ℕ) : Type 0 where
   pub some-loop : 0 < length l
   pub most-lead : length lead ≤ maxPiece
   pub most-loop : length l ≤ maxPiece
   pub lead-letters : strayLetter m lead ≡ false
   pub loop-letters : strayLetter m l ≡ false
 
-pub taken-word : (m : ℕ) (lead l : List ℕ) → wordFault m lead l ≡ 0 → TakenWord m lead l
-taken-word m lead l h =
+pub word-facts : (m : ℕ) (lead l : List ℕ) → wordFault m lead l ≡ 0 → WordFacts m lead l
+word-facts m lead l h =
     let a = first-none (eqb (length l) 0 || (ltb maxPiece (length lead) || ltb maxPiece (length l))) 9 (when (strayLetter m lead || strayLetter m l) Refusal.letter) h in
     let b = or-none (eqb (length l) 0) (ltb maxPiece (length lead) || ltb maxPiece (length l)) (a .0) in
     let d = or-none (ltb maxPiece (length lead)) (ltb maxPiece (length l)) (b .1) in
@@ -159,7 +159,7 @@ taken-word m lead l h =
     }
 
 -- ---- a parity table that is taken
-pub record TakenParity (n m : ℕ) (ts ps : List ℕ) : Type 0 where
+pub record ParityFacts (n m : ℕ) (ts ps : List ℕ) : Type 0 where
   pub some-rows : 1 ≤ n
   pub most-rows : n ≤ maxRows
   pub some-letters : 1 ≤ m
@@ -168,9 +168,9 @@ pub record TakenParity (n m : ℕ) (ts ps : List ℕ) : Type 0 where
   pub priority-cells : n * m ≤ length ps
   pub most-cells : n * m ≤ maxRows * maxLetters
 
-pub taken-parity : (n m : ℕ) (ts ps : List ℕ) → parityFault n m ts ps ≡ 0 → TakenParity n m ts ps
-taken-parity n m ts ps h =
-    let targets = targetFault n noRow (take (n * m) ts) in
+pub parity-facts : (n m : ℕ) (ts ps : List ℕ) → parityFault n m ts ps ≡ 0 → ParityFacts n m ts ps
+parity-facts n m ts ps h =
+    let targets = badTargets n noRow (take (n * m) ts) in
     let arrays = ltb (length ts) (n * m) || (ltb (length ps) (n * m) || targets) in
     let a = in-range maxRows n (eqb m 0 || (ltb maxLetters m || arrays)) (when-none _ 10 h) in
     let b = in-range maxLetters m arrays (a .2) in
@@ -187,7 +187,7 @@ taken-parity n m ts ps h =
     }
 
 pub parity-none : (n m : ℕ) (ts ps : List ℕ) → 1 ≤ n → n ≤ maxRows → 1 ≤ m → m ≤ maxLetters → n * m ≤ length ts → n * m ≤ length ps
-    → targetFault n noRow (take (n * m) ts) ≡ false → parityFault n m ts ps ≡ 0
+    → badTargets n noRow (take (n * m) ts) ≡ false → parityFault n m ts ps ≡ 0
 parity-none n m ts ps n1 nm m1 mm lt lp h =
     rw
     (ne-eqb n 0 (λ e. omega arith), le-ltb maxRows n nm, ne-eqb m 0 (λ e. omega arith), le-ltb maxLetters m mm, le-ltb (length ts) (n * m) lt, le-ltb (length ps) (n * m) lp, h)
@@ -207,9 +207,9 @@ unfolding tableFault
 fault-below bs =
     let t = tableOf bs in
     first-below (ltb (length bs) headerSize) Refusal.short (omega arith)
-    (first-below (sizesFault (t .states) (t .letters) (t .pairs)) Refusal.sizes (omega arith)
+    (first-below (badSizes (t .states) (t .letters) (t .pairs)) Refusal.sizes (omega arith)
     (first-below (ltb (length bs) (tableLength (t .states) (t .letters))) Refusal.short (omega arith)
     (first-below (ltb (tableLength (t .states) (t .letters)) (length bs)) Refusal.long (omega arith)
     (first-below (leb (t .states) (t .start)) Refusal.start (omega arith)
-    (first-below (targetFault (t .states) noState (t .targets)) Refusal.target (omega arith)
-    (when-below (marksFault (t .pairs) (t .targets) (t .marks)) Refusal.marks (omega arith)))))))
+    (first-below (badTargets (t .states) noState (t .targets)) Refusal.target (omega arith)
+    (when-below (badMarks (t .pairs) (t .targets) (t .marks)) Refusal.marks (omega arith)))))))

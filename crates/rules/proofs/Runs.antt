@@ -2,7 +2,7 @@
 --     path-split, path-end, path-below     a path taken apart; where it ends
 --     goes-path, goes-stop, goes-view      reading a word either follows a path or meets a missing transition
 --     stop-after                           a path, and behind it a missing transition
---     stops-view                           the settled run stopped after i letters exactly if the word's run meets a missing
+--     stops-view                           the longRun run stopped after i letters exactly if the word's run meets a missing
 --                                          transition after i letters
 --     Steady                               a run that never stops: it reads the loop again and again, and some repetition begins
 --                                          where an earlier one began
@@ -24,7 +24,7 @@ use lib.ListN.{length, length-append}
 use borrow.Author.Tests.{eqb-true, eq-eqb, leb-true, leb-false, le-leb, lt-leb, ltb-true, ltb-false}
 use Rattle.rules.specs.Basics.{any, SameSet, repeated}
 use Rattle.rules.specs.Systems.{System, Path, here, step}
-use Rattle.rules.specs.Runs.{strayLetter, At, standing, reads, goesBy, Taken, taken, isTaken, passFrom, follow, turn, ReadsOn, settled, recurring, Stop, MeetsMissing, TakenIn, Recurs}
+use Rattle.rules.specs.Runs.{strayLetter, At, standing, reads, goesBy, Taken, taken, isTaken, passFrom, follow, turn, ReadsOn, longRun, recurring, Stop, MeetsMissing, TakenIn, Recurs}
 use Rattle.rules.proofs.Bools.{by, clash, or-cases, or-left, or-right, or-none, and-parts, bool-ext}
 use Rattle.rules.proofs.Sets.{any-append}
 use Rattle.rules.proofs.Reach.{path-append}
@@ -248,9 +248,9 @@ module _ (s : System) where
     pub endless-path : (e : Endless q lead l) (r : ℕ) → Path s q (lead ++ repeated r l) (turn s l r (e .entry))
     endless-path e r = path-append s (e .path) (steady-path l (e .on) r)
 
-    pub endless-settled : (e : Endless q lead l)
-        → settled s q lead l ≡ standing false (turn s l (s .states) (e .entry)) (length (lead ++ repeated (s .states) l) + 0)
-    endless-settled e = goes-path 0 (endless-path e (s .states))
+    pub endless-run : (e : Endless q lead l)
+        → longRun s q lead l ≡ standing false (turn s l (s .states) (e .entry)) (length (lead ++ repeated (s .states) l) + 0)
+    endless-run e = goes-path 0 (endless-path e (s .states))
 
     pub endless-meets-none : Endless q lead l → (i : ℕ) → MeetsMissing s q lead l i → ⊥
     endless-meets-none e i m = path-or-stop (endless-path e (m .repetitions)) (m .stop)
@@ -270,14 +270,14 @@ module _ (s : System) where
           inr
           (goes-view (lead ++ repeated (s .states) l) q (any-append (λ a. leb (s .letters) a) lead (repeated (s .states) l) ∙ rw (lead-ok, repeated-letters (s .letters) (s .states) l l-ok)))
 
-      pub stops-view : (i : ℕ) → ((settled s q lead l .stopped ≡ true) × (settled s q lead l .read ≡ i)) ↔ MeetsMissing s q lead l i
+      pub stops-view : (i : ℕ) → ((longRun s q lead l .stopped ≡ true) × (longRun s q lead l .read ≡ i)) ↔ MeetsMissing s q lead l i
       stops-view i = ⊎-elim endless stopped run-view
         where
-          endless : Endless q lead l → ((settled s q lead l .stopped ≡ true) × (settled s q lead l .read ≡ i)) ↔ MeetsMissing s q lead l i
-          endless e = (λ h. clash (h .0) (ap (λ (z : At). z .stopped) (endless-settled e)), λ m. absurd (endless-meets-none e i m))
+          endless : Endless q lead l → ((longRun s q lead l .stopped ≡ true) × (longRun s q lead l .read ≡ i)) ↔ MeetsMissing s q lead l i
+          endless e = (λ h. clash (h .0) (ap (λ (z : At). z .stopped) (endless-run e)), λ m. absurd (endless-meets-none e i m))
 
           stopped : Stop s q (lead ++ repeated (s .states) l)
-              → ((settled s q lead l .stopped ≡ true) × (settled s q lead l .read ≡ i)) ↔ MeetsMissing s q lead l i
+              → ((longRun s q lead l .stopped ≡ true) × (longRun s q lead l .read ≡ i)) ↔ MeetsMissing s q lead l i
           stopped x =
               let at-x = goes-stop 0 x in (
                 λ h. record { repetitions = s .states; stop = x; count = omega (arith, h .1, ap (λ (z : At). z .read) at-x) },
@@ -344,7 +344,7 @@ module _ (s : System) where
             pass-intro x (record { before = y .before; later = y .later; piece = y .piece; path = rw j at (b .2); present = y .present })
 
     endless-recurring : recurring s q lead l ≡ passFrom s (turn s l (s .states) (e .entry)) (repeated (s .states) l)
-    endless-recurring = ap (λ (z : At). passFrom s (z .place) (repeated (s .states) l)) (endless-settled q lead l e)
+    endless-recurring = ap (λ (z : At). passFrom s (z .place) (repeated (s .states) l)) (endless-run q lead l e)
 
     endless-recurs : (x : Taken) → (any (isTaken x) (recurring s q lead l) ≡ true) ↔ Recurs s q lead l x
     endless-recurs x =
@@ -358,7 +358,7 @@ module _ (s : System) where
     endless-window i d w some wide round b = ap (any b) endless-recurring ∙ recurring-window l (e .on) i d w some wide round b
 
   pub recurs-view : (q : ℕ) (lead l : List ℕ) → q < s .states → strayLetter (s .letters) lead ≡ false → strayLetter (s .letters) l ≡ false
-      → settled s q lead l .stopped ≡ false → (x : Taken) → (any (isTaken x) (recurring s q lead l) ≡ true) ↔ Recurs s q lead l x
+      → longRun s q lead l .stopped ≡ false → (x : Taken) → (any (isTaken x) (recurring s q lead l) ≡ true) ↔ Recurs s q lead l x
   recurs-view q lead l b lead-ok l-ok going x =
       ⊎-elim (λ e. endless-recurs q lead l e x) (λ y. clash (ap (λ (z : At). z .stopped) (goes-stop 0 y)) going)
       (run-view q lead l b lead-ok l-ok)

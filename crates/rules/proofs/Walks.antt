@@ -1,6 +1,6 @@
 -- Closed walks, for any transition system.
 --     ClosedPath, closed-path     a closed walk is what some letters take on a path that leads back
---     closed-met                  what some transition of a closed walk meets, some inside transition of its component meets
+--     closed-within                  what some transition of a closed walk meets, some inside transition of its component meets
 use mathlib.Core.Path.{_≡_, refl, ap, subst}
 use mathlib.Core.Bool.{Bool, true, _&&_, false≢true}
 use mathlib.Core.List.{List, [], _∷_, _++_}
@@ -13,7 +13,7 @@ use Rattle.rules.specs.Basics.{any}
 use Rattle.rules.specs.Systems.{System, Path, here, step, Leads}
 use Rattle.rules.specs.Runs.{Taken, passFrom, goesFrom, endOf, isClosedWalk}
 use Rattle.rules.proofs.Bools.{clash, or-cases, and-parts}
-use Rattle.rules.proofs.Reach.{path-append, together-view, inside-of-return, Met}
+use Rattle.rules.proofs.Reach.{path-append, together-view, inside-of-return, Within}
 use Rattle.rules.proofs.Runs.{path-below}
 
 walk-path : (s : System) (xs : List Taken) (p : ℕ) → goesFrom s p xs ≡ true
@@ -58,10 +58,10 @@ closed-path s (x ∷ xs) h =
 
 -- every transition of a walk that leads back is an inside transition of the component in which it runs
 module _ (s : System) (b : ℕ → ℕ → Bool) where
-  walk-met : (o : ℕ) {q : ℕ} {w : List ℕ} {y : ℕ} → q < s .states → Leads s o q → Path s q w y → Leads s y o
-      → any (λ x. b (x .from) (x .by)) (passFrom s q w) ≡ true → Met s b o
-  walk-met o is-state out here back h = absurd (false≢true h)
-  walk-met o {q} is-state out (step {a = a} {w = w} l t r) back h =
+  walk-within : (o : ℕ) {q : ℕ} {w : List ℕ} {y : ℕ} → q < s .states → Leads s o q → Path s q w y → Leads s y o
+      → any (λ x. b (x .from) (x .by)) (passFrom s q w) ≡ true → Within s b o
+  walk-within o is-state out here back h = absurd (false≢true h)
+  walk-within o {q} is-state out (step {a = a} {w = w} l t r) back h =
       or-cases (b q a) (any (λ x. b (x .from) (x .by)) (passFrom s (s .go q a) w)) h
       (λ e. record {
         state = q;
@@ -72,10 +72,10 @@ module _ (s : System) (b : ℕ → ℕ → Bool) where
         inside = inside-of-return s l t (path-append s (path-append s r (back .1)) (out .1));
         passes = e;
       })
-      (λ e. walk-met o t (out .0 ++ (a ∷ []), path-append s (out .1) (one l t)) r back e)
+      (λ e. walk-within o t (out .0 ++ (a ∷ []), path-append s (out .1) (one l t)) r back e)
     where
       one : a < s .letters → s .go q a < s .states → Path s q (a ∷ []) (s .go q a)
       one l′ t′ = step l′ t′ here
 
-  pub closed-met : {q a : ℕ} {w : List ℕ} → Path s q (a ∷ w) q → any (λ x. b (x .from) (x .by)) (passFrom s q (a ∷ w)) ≡ true → Met s b q
-  closed-met {q} {a} {w} p h = walk-met q (closed-below s (a ∷ w) (omega arith) p) ([], here) p ([], here) h
+  pub closed-within : {q a : ℕ} {w : List ℕ} → Path s q (a ∷ w) q → any (λ x. b (x .from) (x .by)) (passFrom s q (a ∷ w)) ≡ true → Within s b q
+  closed-within {q} {a} {w} p h = walk-within q (closed-below s (a ∷ w) (omega arith) p) ([], here) p ([], here) h

@@ -14,26 +14,26 @@ use Prim.Native.Nat.{ℕ}
 use lib.Dec.{leb}
 use Rattle.rules.specs.Basics.{pick, any}
 use Rattle.rules.specs.Systems.{System}
-use Rattle.rules.specs.Runs.{Taken, isTaken, settled, recurring, MeetsMissing, Recurs}
+use Rattle.rules.specs.Runs.{Taken, isTaken, longRun, recurring, MeetsMissing, Recurs}
 
 pub record Answer : Type 0 where
-  pub word : ℕ
+  pub kind : ℕ
   pub value : ℕ
 
 abbrev pub accepts : Answer
-accepts = record { word = 0; value = 0 }
+accepts = record { kind = 0; value = 0 }
 
 abbrev pub rejects : Answer
-rejects = record { word = 1; value = 0 }
+rejects = record { kind = 1; value = 0 }
 
 abbrev pub stops : ℕ → Answer
-stops n = record { word = 2; value = n }
+stops n = record { kind = 2; value = n }
 
 abbrev pub refused : ℕ → Answer
-refused n = record { word = 3; value = n }
+refused n = record { kind = 3; value = n }
 
 abbrev pub judgedBy : System → ℕ → List ℕ → List ℕ → (List Taken → Bool) → Answer
-judgedBy s q lead l good = pick (settled s q lead l .stopped) (stops (settled s q lead l .read)) (pick (good (recurring s q lead l)) accepts rejects)
+judgedBy s q lead l good = pick (longRun s q lead l .stopped) (stops (longRun s q lead l .read)) (pick (good (recurring s q lead l)) accepts rejects)
 
 pub record Verdict (s : System) (q : ℕ) (lead l : List ℕ) (good : List Taken → Bool) (x : Answer) : Type 0 where
   pub recurring : List Taken

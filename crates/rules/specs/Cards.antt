@@ -23,7 +23,7 @@ use Rattle.rules.specs.Records.{asTheyStood, moved, sameOrder}
 use Rattle.rules.specs.Tables.{tableOf, rising}
 use Rattle.rules.specs.Answers.{Answer, accepts, rejects, stops}
 use Rattle.rules.specs.Judges.{rabinJudge, parityJudge}
-use Rattle.rules.specs.Claims.{tableRows, targets, priorities, sourceStates, recordNumbers}
+use Rattle.rules.specs.Claims.{tableRows, rowTargets, rowPriorities, sourceStates, recordNumbers}
 
 pub data Card : Type 0 where
   judged : List ℕ → List ℕ → List ℕ → Answer → Card
@@ -32,12 +32,12 @@ pub data Card : Type 0 where
   counted : List ℕ → ℕ → List ℕ → Card
 
 abbrev pub sameAnswer : Answer → Answer → Bool
-sameAnswer x y = eqb (x .word) (y .word) && eqb (x .value) (y .value)
+sameAnswer x y = eqb (x .kind) (y .kind) && eqb (x .value) (y .value)
 
 abbrev pub holds : Card → Bool
-holds (judged bs lead l x) = sameAnswer (rabinJudge bs lead l) x && sameAnswer (parityJudge (length (tableRows bs maxRows)) (tableOf bs .letters) (targets bs maxRows) (priorities bs maxRows) lead l) x
+holds (judged bs lead l x) = sameAnswer (rabinJudge bs lead l) x && sameAnswer (parityJudge (length (tableRows bs maxRows)) (tableOf bs .letters) (rowTargets bs maxRows) (rowPriorities bs maxRows) lead l) x
 holds (moves o ps o′) = sameOrder (moved asTheyStood (λ i. isIn i ps) o) o′
-holds (translates bs ts ps ss rs) = (sameOrder (targets bs maxRows) ts && sameOrder (priorities bs maxRows) ps) && (sameOrder (sourceStates bs maxRows) ss && sameOrder (recordNumbers bs maxRows) rs)
+holds (translates bs ts ps ss rs) = (sameOrder (rowTargets bs maxRows) ts && sameOrder (rowPriorities bs maxRows) ps) && (sameOrder (sourceStates bs maxRows) ss && sameOrder (recordNumbers bs maxRows) rs)
 holds (counted bs q o) = sameOrder (rising (tableOf bs) q) o
 
 abbrev pub tableT : List ℕ

@@ -1,7 +1,7 @@
 -- Demand 3: no looped word and no closed walk parts the two tables.
 --     tableRows bs c          the rows of the translation of the table that the bytes say, as far as the capacity c lets them be found
---     targets bs c            its four arrays, each without what stands behind the rows
---     priorities bs c
+--     rowTargets bs c         its four arrays, each without what stands behind the rows
+--     rowPriorities bs c
 --     sourceStates bs c
 --     recordNumbers bs c
 --     exceeds bs c            more than c rows are reachable: the translation is full
@@ -26,11 +26,11 @@ use Rattle.rules.specs.Judges.{satisfies, paritySystem, parityGood, rabi
 abbrev pub tableRows : List ℕ → ℕ → List (Row (List ℕ))
 tableRows bs c = rowsOf (tablePlan (tableOf bs)) c
 
-abbrev pub targets : List ℕ → ℕ → List ℕ
-targets bs c = allTargets (tablePlan (tableOf bs)) noRow (tableRows bs c)
+abbrev pub rowTargets : List ℕ → ℕ → List ℕ
+rowTargets bs c = allTargets (tablePlan (tableOf bs)) noRow (tableRows bs c)
 
-abbrev pub priorities : List ℕ → ℕ → List ℕ
-priorities bs c = allPriorities (tablePlan (tableOf bs)) (tableRows bs c)
+abbrev pub rowPriorities : List ℕ → ℕ → List ℕ
+rowPriorities bs c = allPriorities (tablePlan (tableOf bs)) (tableRows bs c)
 
 abbrev pub sourceStates : List ℕ → ℕ → List ℕ
 sourceStates bs c = sources (tableRows bs c)
@@ -52,4 +52,4 @@ pub record Agrees (bs : List ℕ) (n : ℕ) (ts ps ss : List ℕ) : Type 0 where
       → (parityGood (tableOf bs .letters) ps xs ≡ true) ↔ (satisfies (tableOf bs) (projected ss xs) ≡ true)
 
 abbrev pub Demands : Type 0
-Demands = (bs : List ℕ) (c : ℕ) → translated bs c ≡ true → (ts ps ss : List ℕ) → Agrees bs (length (tableRows bs c)) (targets bs c ++ ts) (priorities bs c ++ ps) (sourceStates bs c ++ ss)
+Demands = (bs : List ℕ) (c : ℕ) → translated bs c ≡ true → (ts ps ss : List ℕ) → Agrees bs (length (tableRows bs c)) (rowTargets bs c ++ ts) (rowPriorities bs c ++ ps) (sourceStates bs c ++ ss)

@@ -19,7 +19,7 @@ use Rattle.rules.specs.Refusals as Refusal
 use Rattle.rules.specs.Systems.{System, cell}
 use Rattle.rules.specs.Runs.{Taken, strayLetter}
 use Rattle.rules.specs.Answers.{Answer, judgedBy, unlessRefused}
-use Rattle.rules.specs.Tables.{Table, tableOf, tableFault, targetFault, systemOf, prohibits, requires}
+use Rattle.rules.specs.Tables.{Table, tableOf, tableFault, badTargets, systemOf, prohibits, requires}
 
 -- the Rabin table
 abbrev pub satisfiesPair : Table → ℕ → List Taken → Bool
@@ -49,7 +49,7 @@ abbrev pub wordFault : ℕ → List ℕ → List ℕ → ℕ
 wordFault m lead l = firstOf (when (eqb (length l) 0 || (ltb maxPiece (length lead) || ltb maxPiece (length l))) Refusal.loop) (when (strayLetter m lead || strayLetter m l) Refusal.letter)
 
 abbrev pub parityFault : ℕ → ℕ → List ℕ → List ℕ → ℕ
-parityFault n m ts ps = when (eqb n 0 || (ltb maxRows n || (eqb m 0 || (ltb maxLetters m || (ltb (length ts) (n * m) || (ltb (length ps) (n * m) || targetFault n noRow (take (n * m) ts))))))) Refusal.parity
+parityFault n m ts ps = when (eqb n 0 || (ltb maxRows n || (eqb m 0 || (ltb maxLetters m || (ltb (length ts) (n * m) || (ltb (length ps) (n * m) || badTargets n noRow (take (n * m) ts))))))) Refusal.parity
 
 abbrev pub rabinJudge : List ℕ → List ℕ → List ℕ → Answer
 rabinJudge bs lead l = unlessRefused (firstOf (tableFault bs) (wordFault (tableOf bs .letters) lead l)) (rabinRun (tableOf bs) lead l)

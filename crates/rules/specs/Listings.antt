@@ -8,7 +8,7 @@
 --     linesAt m ts ps ss rs i      the lines of row i, its source state and its record number read from ss and rs
 --     lines n m ts ps ss rs        the lines of rows 0 to n - 1
 --     head n m k                   the first line: rows, letters and pairs
---     refused f                    the line of the refusal f: the word and the number
+--     refusalLine f                    the line of the refusal f: the word and the number
 --     tableListing bs c            the head and the lines of the table that the bytes say, translated with the capacity c
 --     listing bs c a b d e         the whole text, where the four lent arrays have the lengths a, b, d and e
 --     rowsListed bs c a b d e      the rows listed, 0 on a refusal
@@ -24,7 +24,7 @@ use Rattle.rules.specs.Basics.{pick}
 use Rattle.rules.specs.Limits.{noRow}
 use Rattle.rules.specs.Systems.{cell}
 use Rattle.rules.specs.Tables.{tableOf}
-use Rattle.rules.specs.Claims.{tableRows, targets, priorities, sourceStates, recordNumbers}
+use Rattle.rules.specs.Claims.{tableRows, rowTargets, rowPriorities, sourceStates, recordNumbers}
 use Rattle.rules.specs.Says.{translateFault, RowArrays, TranslateSays}
 use Rattle.rules.specs.Texts.{blank, lineFeed, dash, numeral, each, put}
 
@@ -55,23 +55,23 @@ lines n m ts ps ss rs = each n 0 (linesAt m ts ps ss rs)
 unfoldable pub head : ℕ → ℕ → ℕ → List ℕ
 head n m k = field n blank ++ (field m blank ++ field k lineFeed)
 
-unfoldable pub refused : ℕ → List ℕ
-refused f = (114 ∷ 101 ∷ 102 ∷ 117 ∷ 115 ∷ 101 ∷ 100 ∷ blank ∷ []) ++ field f lineFeed
+unfoldable pub refusalLine : ℕ → List ℕ
+refusalLine f = (114 ∷ 101 ∷ 102 ∷ 117 ∷ 115 ∷ 101 ∷ 100 ∷ blank ∷ []) ++ field f lineFeed
 
 -- the whole text
 unfoldable pub tableListing : List ℕ → ℕ → List ℕ
 tableListing bs c =
     let n = length (tableRows bs c) in
     let m = tableOf bs .letters in
-    head n m (tableOf bs .pairs) ++ lines n m (targets bs c) (priorities bs c) (sourceStates bs c) (recordNumbers bs c)
+    head n m (tableOf bs .pairs) ++ lines n m (rowTargets bs c) (rowPriorities bs c) (sourceStates bs c) (recordNumbers bs c)
 
 unfoldable pub listing : List ℕ → ℕ → ℕ → ℕ → ℕ → ℕ → List ℕ
-listing bs c a b d e = pick (eqb (translateFault bs c a b d e) 0) (tableListing bs c) (refused (translateFault bs c a b d e))
+listing bs c a b d e = pick (eqb (translateFault bs c a b d e) 0) (tableListing bs c) (refusalLine (translateFault bs c a b d e))
 
 abbrev pub rowsListed : List ℕ → ℕ → ℕ → ℕ → ℕ → ℕ → ℕ
 rowsListed bs c a b d e = pick (eqb (translateFault bs c a b d e) 0) (length (tableRows bs c)) 0
 
 pub record ListingSays (bs : List ℕ) (c : ℕ) (x x′ : RowArrays) (o o′ : List ℕ) (r : ℕ) : Type 0 where
-  pub arrays : TranslateSays bs c x x′ (translateFault bs c (length (x .targets)) (length (x .priorities)) (length (x .states)) (length (x .records))) (rowsListed bs c (length (x .targets)) (length (x .priorities)) (length (x .states)) (length (x .records)))
-  pub text : o′ ≡ put 0 (listing bs c (length (x .targets)) (length (x .priorities)) (length (x .states)) (length (x .records))) o
-  pub size : r ≡ length (listing bs c (length (x .targets)) (length (x .priorities)) (length (x .states)) (length (x .records)))
+  pub arrays : TranslateSays bs c x x′ (translateFault bs c (length (x .targets)) (length (x .priorities)) (length (x .sources)) (length (x .records))) (rowsListed bs c (length (x .targets)) (length (x .priorities)) (length (x .sources)) (length (x .records)))
+  pub text : o′ ≡ put 0 (listing bs c (length (x .targets)) (length (x .priorities)) (length (x .sources)) (length (x .records))) o
+  pub size : r ≡ length (listing bs c (length (x .targets)) (length (x .priorities)) (length (x .sources)) (length (x .records)))

@@ -4,7 +4,7 @@
 --     SameIsEqual g            sameness of rows is equality
 --     placeOf b xs             the place of the first element that passes b, past the end for none
 --     numberOf g r rs          the number of the first row of rs that is the same as r, past the end for absent
---     met g rs r a             rs after the row r is read by the letter a: its target added at the end, if it is there and absent
+--     rowsWith g rs r a        rs after the row r is read by the letter a: its target added at the end, if it is there and absent
 --     foundBy f a g r rs       rs after r is read by the letters a, a + 1 .., f of them
 --     foundFrom f i g c rs     rs after the rows i, i + 1 .. are read, f of them at most, as long as there are such rows and no more than c
 --     rowsOf g c               the reachable rows in order of discovery, rows taken by number and letters rising within each; no
@@ -64,12 +64,12 @@ placeOf b (x ∷ xs) = elim (b x) [ true ↦ 0 | false ↦ suc (placeOf b xs) ]
 abbrev pub numberOf : {A : Type 0} → Plan A → A → List A → ℕ
 numberOf g r rs = placeOf (g .same r) rs
 
-abbrev pub met : {A : Type 0} → Plan A → List A → A → ℕ → List A
-met g rs r a = pick (g .step r a .there && leb (length rs) (numberOf g (g .step r a .to) rs)) (rs ++ (g .step r a .to ∷ [])) rs
+abbrev pub rowsWith : {A : Type 0} → Plan A → List A → A → ℕ → List A
+rowsWith g rs r a = pick (g .step r a .there && leb (length rs) (numberOf g (g .step r a .to) rs)) (rs ++ (g .step r a .to ∷ [])) rs
 
 abbrev pub foundBy : {A : Type 0} → ℕ → ℕ → Plan A → A → List A → List A
 foundBy zero a g r rs = rs
-foundBy (suc f) a g r rs = foundBy f (suc a) g r (met g rs r a)
+foundBy (suc f) a g r rs = foundBy f (suc a) g r (rowsWith g rs r a)
 
 abbrev pub foundFrom : {A : Type 0} → ℕ → ℕ → Plan A → ℕ → List A → List A
 foundFrom zero i g c rs = rs

@@ -13,7 +13,7 @@
 --     follow s w p               where the letters of w lead from p, if the transitions on the way are there
 --     turn s l r p               where the repetition after the r-th of the loop l begins, the first of them at p
 --     ReadsOn s l p n            n repetitions of the loop l are read one after the other, the first of them from p
---     settled s q lead l         the run from q after the lead-in and as many repetitions of the loop as there are states
+--     longRun s q lead l         the run from q after the lead-in and as many repetitions of the loop as there are states
 --     recurring s q lead l       the transitions taken in as many repetitions more: of that many repetitions some begins at
 --                                a state for the second time, so these are just the transitions that recur (`recurs-view`)
 --     Stop s p w                 reading w from p meets a missing transition: some letters lead on, and for the next there is none
@@ -75,11 +75,11 @@ turn s l r p = iter (follow s l) r p
 abbrev pub ReadsOn : System → List ℕ → ℕ → ℕ → Type 0
 ReadsOn s l p n = (r : ℕ) → r < n → Path s (turn s l r p) l (turn s l (suc r) p)
 
-abbrev pub settled : System → ℕ → List ℕ → List ℕ → At
-settled s q lead l = goesBy s (standing false q 0) (lead ++ repeated (s .states) l)
+abbrev pub longRun : System → ℕ → List ℕ → List ℕ → At
+longRun s q lead l = goesBy s (standing false q 0) (lead ++ repeated (s .states) l)
 
 abbrev pub recurring : System → ℕ → List ℕ → List ℕ → List Taken
-recurring s q lead l = passFrom s (settled s q lead l .place) (repeated (s .states) l)
+recurring s q lead l = passFrom s (longRun s q lead l .place) (repeated (s .states) l)
 
 -- what the computed run and the recurring transitions stand for, in document 01's words
 pub record Stop (s : System) (p : ℕ) (w : List ℕ) : Type 0 where

@@ -32,7 +32,7 @@ use Rattle.rules.specs.Rows.{Row, Reached, MoreThan, RowsAre}
 use Rattle.rules.specs.Tables.{Table, tableOf, tableFault, systemOf, IsOrdering, tablePlan, StepIs}
 use Rattle.rules.specs.Answers.{Answer, JudgedAs}
 use Rattle.rules.specs.Judges.{satisfies, paritySystem, parityGood, wordFault, parityFault, rabinJudge, parityJudge, restOf}
-use Rattle.rules.specs.Claims.{tableRows, targets, priorities, sourceStates, recordNumbers, exceeds, Agrees}
+use Rattle.rules.specs.Claims.{tableRows, rowTargets, rowPriorities, sourceStates, recordNumbers, exceeds, Agrees}
 
 abbrev pub CheckSays : List ℕ → ℕ → Type 0
 CheckSays bs r = r ≡ tableFault bs
@@ -73,18 +73,18 @@ afterwards f n xs o = pick (eqb f 0) (padded n xs o) (pick (eqb f Refusal.full) 
 pub record RowArrays : Type 0 where
   pub targets : List ℕ
   pub priorities : List ℕ
-  pub states : List ℕ
+  pub sources : List ℕ
   pub records : List ℕ
 
 abbrev pub rowArrays : List ℕ → List ℕ → List ℕ → List ℕ → RowArrays
-rowArrays ts ps ss es = record { targets = ts; priorities = ps; states = ss; records = es }
+rowArrays ts ps ss es = record { targets = ts; priorities = ps; sources = ss; records = es }
 
 pub record TranslateSays (bs : List ℕ) (c : ℕ) (o o′ : RowArrays) (number rows : ℕ) : Type 0 where
-  pub refusal : number ≡ translateFault bs c (length (o .targets)) (length (o .priorities)) (length (o .states)) (length (o .records))
+  pub refusal : number ≡ translateFault bs c (length (o .targets)) (length (o .priorities)) (length (o .sources)) (length (o .records))
   pub count : rows ≡ pick (eqb number 0) (length (tableRows bs c)) 0
-  pub target-array : o′ .targets ≡ afterwards number (c * tableOf bs .letters) (targets bs c) (o .targets)
-  pub priority-array : o′ .priorities ≡ afterwards number (c * tableOf bs .letters) (priorities bs c) (o .priorities)
-  pub state-array : o′ .states ≡ afterwards number c (sourceStates bs c) (o .states)
+  pub target-array : o′ .targets ≡ afterwards number (c * tableOf bs .letters) (rowTargets bs c) (o .targets)
+  pub priority-array : o′ .priorities ≡ afterwards number (c * tableOf bs .letters) (rowPriorities bs c) (o .priorities)
+  pub source-array : o′ .sources ≡ afterwards number c (sourceStates bs c) (o .sources)
   pub record-array : o′ .records ≡ afterwards number c (recordNumbers bs c) (o .records)
 
 abbrev pub TranslationAgrees : List ℕ → List ℕ → List ℕ → List ℕ → ℕ → ℕ → Type 0

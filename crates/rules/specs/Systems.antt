@@ -7,7 +7,7 @@
 --     together s p q      p and q share a component (a strongly connected component)
 --     componentOf s q     the smallest state of q's component
 --     isInside s q a      the transition of q by a is there and both its ends share a component; if it is there and is not inside, it is crossing
---     metWithin s b q     some inside transition of q's component passes the test b
+--     someWithin s b q     some inside transition of q's component passes the test b
 --     Path s p w q        the letters of w lead from p to q by transitions that are there
 --     Leads s p q         some letters lead from p to q
 --     ComponentsAre s f   f gives each state the smallest state of its component, in terms of paths
@@ -44,8 +44,8 @@ componentOf s q = least (s .states) 0 (together s q)
 unfoldable pub isInside : System → ℕ → ℕ → Bool
 isInside s q a = ltb (s .go q a) (s .states) && together s q (s .go q a)
 
-unfoldable pub metWithin : System → (ℕ → ℕ → Bool) → ℕ → Bool
-metWithin s b q = anyBelow (s .states) (λ p. together s q p && anyBelow (s .letters) (λ a. isInside s p a && b p a))
+unfoldable pub someWithin : System → (ℕ → ℕ → Bool) → ℕ → Bool
+someWithin s b q = anyBelow (s .states) (λ p. together s q p && anyBelow (s .letters) (λ a. isInside s p a && b p a))
 
 pub data Path (s : System) : ℕ → List ℕ → ℕ → Type 0 where
   here : {p : ℕ} → Path s p [] p

@@ -6,9 +6,9 @@
 --     prohibitedByte t q a, requiredByte t q a     the marks of the transition of q by a, bit i - 1 for pair i
 --     prohibits t q a i        the transition of q by a has pair i's prohibited bit: it is in the pair's Fin set
 --     requires t q a i         the transition of q by a has pair i's required bit: it is in the pair's Inf set
---     sizesFault n m k         a size is out of range;  tableLength n m  the bytes that the sizes demand
---     targetFault n none ts    some target is neither below n nor the missing one
---     markFault, marksFault    the marks of one transition, or some marks, are not right for k pairs and their targets
+--     badSizes n m k         a size is out of range;  tableLength n m  the bytes that the sizes demand
+--     badTargets n none ts    some target is neither below n nor the missing one
+--     badMark, badMarks    the marks of one transition, or some marks, are not right for k pairs and their targets
 --     tableFault bs            the refusal of the bytes, 1 to 6 in document 01's order, 0 if the table is taken
 --     systemOf t               the table's transition system
 --     countsBy t i p a         the transition of p by a, if it is inside, makes pair i count: it has the required bit
@@ -29,7 +29,7 @@ use lib.ListN.{length, getD, take, drop}
 use Rattle.rules.specs.Basics.{pick, any, firstOf, when, occurs, keep, tabulate, bit}
 use Rattle.rules.specs.Limits.{maxStates, maxLetters, maxPairs, headerSize, noState}
 use Rattle.rules.specs.Refusals as Refusal
-use Rattle.rules.specs.Systems.{System, cell, isInside, metWithin}
+use Rattle.rules.specs.Systems.{System, cell, isInside, someWithin}
 use Rattle.rules.specs.Records.{Marks, asTheyStood, moved, priority, PriorityIs, sameOrder}
 use Rattle.rules.specs.Rows.{Step, Keeper, Row, row, Plan, planOf}
 
@@ -63,35 +63,35 @@ abbrev pub requires : Table → ℕ → ℕ → ℕ → Bool
 requires t q a i = bit (i - 1) (requiredByte t q a)
 
 -- refusals
-abbrev pub sizesFault : ℕ → ℕ → ℕ → Bool
-sizesFault n m k = eqb n 0 || (ltb maxStates n || (eqb m 0 || (ltb maxLetters m || ltb maxPairs k)))
+abbrev pub badSizes : ℕ → ℕ → ℕ → Bool
+badSizes n m k = eqb n 0 || (ltb maxStates n || (eqb m 0 || (ltb maxLetters m || ltb maxPairs k)))
 
 abbrev pub tableLength : ℕ → ℕ → ℕ
 tableLength n m = headerSize + 3 * (n * m)
 
 -- over the targets of a parity table too
-abbrev pub targetFault : ℕ → ℕ → List ℕ → Bool
-targetFault n none ts = any (λ x. not (ltb x n || eqb x none)) ts
+abbrev pub badTargets : ℕ → ℕ → List ℕ → Bool
+badTargets n none ts = any (λ x. not (ltb x n || eqb x none)) ts
 
 -- a bit above pair k, or any bit on a missing transition
-abbrev pub markFault : ℕ → ℕ → ℕ → ℕ → Bool
-markFault k x prohibited required =
+abbrev pub badMark : ℕ → ℕ → ℕ → ℕ → Bool
+badMark k x prohibited required =
     not (ltb prohibited (2 ^ k) && ltb required (2 ^ k)) || (eqb x noState && not (eqb prohibited 0 && eqb required 0))
 
-abbrev pub marksFault : ℕ → List ℕ → List ℕ → Bool
-marksFault k [] ms = false
-marksFault k (x ∷ ts) ms = markFault k x (getD ms 0 0) (getD ms 1 0) || marksFault k ts (drop 2 ms)
+abbrev pub badMarks : ℕ → List ℕ → List ℕ → Bool
+badMarks k [] ms = false
+badMarks k (x ∷ ts) ms = badMark k x (getD ms 0 0) (getD ms 1 0) || badMarks k ts (drop 2 ms)
 
 unfoldable pub tableFault : List ℕ → ℕ
 tableFault bs =
     let t = tableOf bs in
     firstOf (when (ltb (length bs) headerSize) Refusal.short)
-    (firstOf (when (sizesFault (t .states) (t .letters) (t .pairs)) Refusal.sizes)
+    (firstOf (when (badSizes (t .states) (t .letters) (t .pairs)) Refusal.sizes)
     (firstOf (when (ltb (length bs) (tableLength (t .states) (t .letters))) Refusal.short)
     (firstOf (when (ltb (tableLength (t .states) (t .letters)) (length bs)) Refusal.long)
     (firstOf (when (leb (t .states) (t .start)) Refusal.start)
-    (firstOf (when (targetFault (t .states) noState (t .targets)) Refusal.target)
-    (when (marksFault (t .pairs) (t .targets) (t .marks)) Refusal.marks))))))
+    (firstOf (when (badTargets (t .states) noState (t .targets)) Refusal.target)
+    (when (badMarks (t .pairs) (t .targets) (t .marks)) Refusal.marks))))))
 
 -- components and records
 abbrev pub systemOf : Table → System
@@ -101,7 +101,7 @@ abbrev pub countsBy : Table → ℕ → ℕ → ℕ → Bool
 countsBy t i p a = requires t p a i
 
 abbrev pub counts : Table → ℕ → ℕ → Bool
-counts t q i = metWithin (systemOf t) (countsBy t i) q
+counts t q i = someWithin (systemOf t) (countsBy t i) q
 
 abbrev pub rising : Table → ℕ → List ℕ
 rising t q = keep (counts t q) (tabulate (t .pairs) 1 (λ i. i))

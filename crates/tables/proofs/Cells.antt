@@ -1,4 +1,4 @@
--- Where the cells of a table that is taken stand among its bytes.
+-- Where the cells of a table that is formed stand among its bytes.
 --     targetAt, target-within, target-byte         the place of the byte that says where q goes by a, and that byte
 --     prohibitedAt, prohibited-byte     the place of the byte of that transition's prohibited marks, and that byte
 --     requiredAt, required-byte     the same of its required marks
@@ -16,25 +16,25 @@ use lib.Seq.{getD-take, getD-drop}
 use borrow.Author.Tests.{ltb-true, not-false}
 use Rattle.rules.specs.Limits.{headerSize, noState}
 use Rattle.rules.specs.Systems.{cell}
-use Rattle.rules.specs.Tables.{Table, tableOf, targetOf, prohibitedByte, requiredByte, markFault, marksFault}
+use Rattle.rules.specs.Tables.{Table, tableOf, targetOf, prohibitedByte, requiredByte, badMark, badMarks}
 use Rattle.rules.proofs.Arrays.{getD-any, cell-within}
 use Rattle.rules.proofs.Bools.{or-none, and-parts}
-use Rattle.rules.proofs.Refusals.{taken-table}
-use Rattle.tables.specs.Parts.{Taken}
+use Rattle.rules.proofs.Refusals.{table-facts}
+use Rattle.tables.specs.Parts.{WellFormed}
 
--- marks that are taken have no bit above pair k; past the last cell there are none
-marks-below : (k : ℕ) (ts ms : List ℕ) (c : ℕ) → marksFault k ts ms ≡ false → length ms ≤ 2 * length ts
+-- marks that are formed have no bit above pair k; past the last cell there are none
+marks-below : (k : ℕ) (ts ms : List ℕ) (c : ℕ) → badMarks k ts ms ≡ false → length ms ≤ 2 * length ts
     → (getD ms (2 * c) 0 < 2 ^ k) × (getD ms (suc (2 * c)) 0 < 2 ^ k)
 marks-below k [] ms c h l =
     let past : (i : ℕ) → getD ms i 0 < 2 ^ k = λ i. rw (List·getD-eq-default ms 0 {n = i} (omega arith)) (pow-pos k) in
     (past (2 * c), past (suc (2 * c)))
 marks-below k (x ∷ ts) ms zero h l =
-    let a = or-none (markFault k x (getD ms 0 0) (getD ms 1 0)) (marksFault k ts (drop 2 ms)) h in
+    let a = or-none (badMark k x (getD ms 0 0) (getD ms 1 0)) (badMarks k ts (drop 2 ms)) h in
     let b = or-none (not (ltb (getD ms 0 0) (2 ^ k) && ltb (getD ms 1 0) (2 ^ k))) (eqb x noState && not (eqb (getD ms 0 0) 0 && eqb (getD ms 1 0) 0)) (a .0) in
     let d = and-parts (ltb (getD ms 0 0) (2 ^ k)) (ltb (getD ms 1 0) (2 ^ k)) (not-false _ (b .0)) in
     (ltb-true (getD ms 0 0) (2 ^ k) (d .0), ltb-true (getD ms 1 0) (2 ^ k) (d .1))
 marks-below k (x ∷ ts) ms (suc c) h l =
-    let a = or-none (markFault k x (getD ms 0 0) (getD ms 1 0)) (marksFault k ts (drop 2 ms)) h in
+    let a = or-none (badMark k x (getD ms 0 0) (getD ms 1 0)) (badMarks k ts (drop 2 ms)) h in
     let e : 2 + 2 * c ≡ 2 * suc c = omega arith in
     let f : 2 + suc (2 * c) ≡ suc (2 * suc c) = omega arith in
     let both = marks-below k ts (drop 2 ms) c (a .1) (omega (arith, length-drop 2 ms)) in
@@ -61,23 +61,23 @@ module _ (bs : List ℕ) where
   mark-byte c at l e =
       getD-take (2 * cells) (drop (headerSize + cells) bs) c 0 l ∙ getD-drop (headerSize + cells) bs c 0 ∙ rw e
 
-  pub target-count : Taken bs → length (t .targets) ≡ cells
-  target-count taken = simp (length-take, length-drop) (omega (arith, taken-table bs taken .exact))
+  pub target-count : WellFormed bs → length (t .targets) ≡ cells
+  target-count formed = simp (length-take, length-drop) (omega (arith, table-facts bs formed .exact))
 
-  pub mark-count : Taken bs → length (t .marks) ≡ 2 * cells
-  mark-count taken = simp (length-take, length-drop) (omega (arith, taken-table bs taken .exact))
+  pub mark-count : WellFormed bs → length (t .marks) ≡ 2 * cells
+  mark-count formed = simp (length-take, length-drop) (omega (arith, table-facts bs formed .exact))
 
-  pub marks-small : Taken bs → (c : ℕ) → (getD (t .marks) (2 * c) 0 < 2 ^ t .pairs) × (getD (t .marks) (suc (2 * c)) 0 < 2 ^ t .pairs)
-  marks-small taken c =
-      let size : length (t .marks) ≤ 2 * length (t .targets) = simp (length-take, length-drop) (omega (arith, taken-table bs taken .exact)) in
-      marks-below (t .pairs) (t .targets) (t .marks) c (taken-table bs taken .marks-taken) size
+  pub marks-small : WellFormed bs → (c : ℕ) → (getD (t .marks) (2 * c) 0 < 2 ^ t .pairs) × (getD (t .marks) (suc (2 * c)) 0 < 2 ^ t .pairs)
+  marks-small formed c =
+      let size : length (t .marks) ≤ 2 * length (t .targets) = simp (length-take, length-drop) (omega (arith, table-facts bs formed .exact)) in
+      marks-below (t .pairs) (t .targets) (t .marks) c (table-facts bs formed .marks-good) size
 
-  module _ (taken : Taken bs) (q a : ℕ) (l : q < t .states) (r : a < t .letters) where
+  module _ (formed : WellFormed bs) (q a : ℕ) (l : q < t .states) (r : a < t .letters) where
     within : cell (t .letters) q a < cells
     within = cell-within (t .states) (t .letters) q a l r
 
     pub target-within : targetAt q a < length bs
-    target-within = omega (arith, within, taken-table bs taken .exact)
+    target-within = omega (arith, within, table-facts bs formed .exact)
 
     pub target-byte : targetOf t q a ≡ getD bs (targetAt q a) 0
     target-byte =

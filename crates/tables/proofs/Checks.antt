@@ -1,6 +1,6 @@
 -- The checks of sizes and cells.
---     sizes-fault                  the sizes within their ranges, as tests
---     mark-word                    both sets of marks of a cell as one word
+--     bad-sizes                  the sizes within their ranges, as tests
+--     mask-tested                    both sets of marks of a cell as one word
 --     marks-turn                   what is left to check after one cell more
 --     marks-end                    no cell is left
 use mathlib.Core.Path.{_≡_, refl, sym, ap, _∙_}
@@ -18,7 +18,7 @@ use lib.Seq.{drop-cons, getD-drop, drop-drop}
 use borrow.Author.Tests.{leb-true, leb-false, le-ltb, lt-ltb}
 use Rattle.rules.specs.Basics.{pick}
 use Rattle.rules.specs.Limits.{maxStates, maxLetters, maxPairs, noState}
-use Rattle.rules.specs.Tables.{sizesFault, markFault, marksFault}
+use Rattle.rules.specs.Tables.{badSizes, badMark, badMarks}
 use Rattle.rules.proofs.Bits.{both-below}
 use Rattle.rules.proofs.Bools.{by, or-right}
 
@@ -38,37 +38,37 @@ none-of false false false true e = refl
 none-of false false false false true = refl
 none-of false false false false false = refl
 
-pub sizes-fault : (n m k : ℕ)
-    → not (((leb 1 n && leb n maxStates) && (leb 1 m && leb m maxLetters)) && leb k maxPairs) ≡ sizesFault n m k
-sizes-fault n m k =
+pub bad-sizes : (n m k : ℕ)
+    → not (((leb 1 n && leb n maxStates) && (leb 1 m && leb m maxLetters)) && leb k maxPairs) ≡ badSizes n m k
+bad-sizes n m k =
     rw (at-least-one n, at-most n maxStates, at-least-one m, at-most m maxLetters, at-most k maxPairs)
     (none-of (eqb n 0) (ltb maxStates n) (eqb m 0) (ltb maxLetters m) (ltb maxPairs k))
 
 -- both sets of marks as one word, by the bits that it must not have
-bare-word : (k u v : ℕ) → not (ltb u 1 && ltb v 1) ≡ not (ltb u (2 ^ k) && ltb v (2 ^ k)) || not (eqb u 0 && eqb v 0)
-bare-word k zero zero = rw (lt-ltb 0 (2 ^ k) (pow-pos k))
-bare-word k (suc u) v =
+mask-bare : (k u v : ℕ) → not (ltb u 1 && ltb v 1) ≡ not (ltb u (2 ^ k) && ltb v (2 ^ k)) || not (eqb u 0 && eqb v 0)
+mask-bare k zero zero = rw (lt-ltb 0 (2 ^ k) (pow-pos k))
+mask-bare k (suc u) v =
     rw (le-ltb (suc u) 1 (omega arith), eqb·suc-zero u) (sym (or-right (not (ltb (suc u) (2 ^ k) && ltb v (2 ^ k))) true refl))
-bare-word k zero (suc v) =
+mask-bare k zero (suc v) =
     rw (le-ltb (suc v) 1 (omega arith), eqb·suc-zero v) (sym (or-right (not (ltb 0 (2 ^ k) && ltb (suc v) (2 ^ k))) true refl))
 
-pub mark-word : (k x u v : ℕ) → k ≤ maxPairs → u < 256 → v < 256
-    → not (eqb (bitAnd (v * 256 + u) (pick (eqb x noState) 65535 ((256 - 2 ^ k) * 256 + (256 - 2 ^ k)))) 0) ≡ markFault k x u v
-mark-word k x u v l lu lv =
+pub mask-tested : (k x u v : ℕ) → k ≤ maxPairs → u < 256 → v < 256
+    → not (eqb (bitAnd (v * 256 + u) (pick (eqb x noState) 65535 ((256 - 2 ^ k) * 256 + (256 - 2 ^ k)))) 0) ≡ badMark k x u v
+mask-tested k x u v l lu lv =
     by
     (eqb x noState)
-    (λ e. rw e (ap not (both-below 0 u v (omega arith) lu lv) ∙ bare-word k u v))
+    (λ e. rw e (ap not (both-below 0 u v (omega arith) lu lv) ∙ mask-bare k u v))
     (λ e. rw e (ap not (both-below k u v (omega arith) lu lv) ∙ sym (or-false (not (ltb u (2 ^ k) && ltb v (2 ^ k))))))
 
 -- every cell: what was found so far, or is still to be found
 pub marks-turn : (k : ℕ) (bad : Bool) (ts ms : List ℕ) (c : ℕ) → c < length ts
-    → (bad || markFault k (getD ts c 0) (getD ms (2 * c) 0) (getD ms (2 * c + 1) 0)) || marksFault k (drop (c + 1) ts) (drop (2 * (c + 1)) ms)
-    ≡ bad || marksFault k (drop c ts) (drop (2 * c) ms)
+    → (bad || badMark k (getD ts c 0) (getD ms (2 * c) 0) (getD ms (2 * c + 1) 0)) || badMarks k (drop (c + 1) ts) (drop (2 * (c + 1)) ms)
+    ≡ bad || badMarks k (drop c ts) (drop (2 * c) ms)
 marks-turn k bad ts ms c l =
     let e : 2 * (c + 1) ≡ 2 * c + 2 = omega arith in
     rw (e, add-one c, drop-cons ts c 0 l, getD-drop (2 * c) ms 0 0, getD-drop (2 * c) ms 1 0, drop-drop 2 (2 * c) ms, add-zero (2 * c))
     (or-assoc bad _ _)
 
 pub marks-end : (k : ℕ) (bad : Bool) (ts ms : List ℕ) (c : ℕ) → length ts ≤ c
-    → bad || marksFault k (drop c ts) (drop (2 * c) ms) ≡ marksFault k ts ms → bad ≡ marksFault k ts ms
+    → bad || badMarks k (drop c ts) (drop (2 * c) ms) ≡ badMarks k ts ms → bad ≡ badMarks k ts ms
 marks-end k bad ts ms c l h = sym (or-false bad) ∙ (rw (drop-of-length-le ts l) at h)

@@ -1,9 +1,9 @@
--- A table that is taken, laid out: what its arrays say of its system and of what counts.
+-- A table that is formed, laid out: what its arrays say of its system and of what counts.
 --     marks-rest             the rest of the bytes are the marks
 --     targets-written, marks-written     what is laid out of the parts of the bytes is the table's
 --     targets-laid, marks-laid           an array with the table's targets or marks at its front, by state and letter
 --     laid-go, go-laid       the system in the array of targets has the table's transitions, and no others
---     is-table               a table that is taken has sizes in range
+--     is-table               a table that is formed has sizes in range
 --     laid-homes-at, laid-homes     its components are the table's
 --     laid-counted           what its inside transitions require is what counts in the table
 use mathlib.Core.Path.{_≡_, refl, sym, ap, _∙_}
@@ -20,17 +20,17 @@ use Rattle.rules.specs.Basics.{tabulate, asBits}
 use Rattle.rules.specs.Judges.{paritySystem}
 use Rattle.rules.specs.Limits.{headerSize, noState, noRow}
 use Rattle.rules.specs.Says.{over}
-use Rattle.rules.specs.Systems.{System, componentOf, metWithin, cell}
+use Rattle.rules.specs.Systems.{System, componentOf, someWithin, cell}
 use Rattle.rules.specs.Tables.{Table, tableOf, systemOf, targetOf, prohibitedByte, requiredByte, requires, counts}
 use Rattle.rules.proofs.Arrays.{getD-any, cell-within}
 use Rattle.rules.proofs.Bits.{bit-over}
 use Rattle.rules.proofs.Bools.{by, clash}
-use Rattle.rules.proofs.Reach.{met-view}
+use Rattle.rules.proofs.Reach.{within-view}
 use Rattle.rules.proofs.Filling.{over-at}
-use Rattle.rules.proofs.Refusals.{TakenTable, taken-table}
-use Rattle.rules.proofs.Reaching.{SameGo, same-component, same-met}
+use Rattle.rules.proofs.Refusals.{TableFacts, table-facts}
+use Rattle.rules.proofs.Reaching.{SameGo, same-component, same-within}
 use Rattle.tables.specs.Layouts.{wideTarget, targetIn, marksIn, TargetsLaid, MarksLaid, targetCells, markCells, IsTable, countedPairs, requiredIn, pairBits, countedIn}
-use Rattle.tables.specs.Parts.{Taken, Listed}
+use Rattle.tables.specs.Parts.{WellFormed, Listed}
 use Rattle.tables.proofs.Cells.{target-count, marks-small}
 
 -- ---- sets of pairs with more bits than there are pairs
@@ -50,10 +50,10 @@ wide-list part xs k e l =
     ∙ ap (λ (j : ℕ). tabulate j 0 (λ c. wideTarget (getD xs c 0))) l
 
 -- where no transition passes a test, none is met
-met-none : (s : System) (b : ℕ → ℕ → Bool) (q : ℕ) → ((p a : ℕ) → b p a ≡ false) → metWithin s b q ≡ false
-met-none s b q none = by (metWithin s b q) (λ e. let r = met-view s b q .0 e in clash (r .passes) (none (r .state) (r .letter))) (λ e. e)
+met-none : (s : System) (b : ℕ → ℕ → Bool) (q : ℕ) → ((p a : ℕ) → b p a ≡ false) → someWithin s b q ≡ false
+met-none s b q none = by (someWithin s b q) (λ e. let r = within-view s b q .0 e in clash (r .passes) (none (r .state) (r .letter))) (λ e. e)
 
-module _ (bs : List ℕ) (taken : Taken bs) where
+module _ (bs : List ℕ) (formed : WellFormed bs) where
   abbrev t : Table
   t = tableOf bs
 
@@ -63,12 +63,12 @@ module _ (bs : List ℕ) (taken : Taken bs) where
   abbrev m : ℕ
   m = t .letters
 
-  known : TakenTable bs
-  known = taken-table bs taken
+  known : TableFacts bs
+  known = table-facts bs formed
 
   pub targets-written : (part old ts : List ℕ) → part ≡ t .targets → ts ≡ over (tabulate (length part) 0 (λ c. wideTarget (getD part c 0))) old
       → ts ≡ over (targetCells t) old
-  targets-written part old ts e h = h ∙ ap (λ (xs : List ℕ). over xs old) (wide-list part (t .targets) (n * m) e (target-count bs taken))
+  targets-written part old ts e h = h ∙ ap (λ (xs : List ℕ). over xs old) (wide-list part (t .targets) (n * m) e (target-count bs formed))
 
   pub marks-rest : take (length bs - (headerSize + n * m)) (drop (headerSize + n * m) bs) ≡ t .marks
   marks-rest = let e : length bs - (headerSize + n * m) ≡ 2 * (n * m) = omega (arith, known .exact) in rw e
@@ -81,7 +81,7 @@ module _ (bs : List ℕ) (taken : Taken bs) where
   targets-laid old ts lt e =
       record {
         enough = lt;
-        entry = λ q a l r. let c = cell-within n m q a l r in rw e (over-at (targetIn t) (n * m) old (cell m q a) c) ∙ ap wideTarget (getD-any (t .targets) (cell m q a) 0 n (omega (arith, target-count bs taken)));
+        entry = λ q a l r. let c = cell-within n m q a l r in rw e (over-at (targetIn t) (n * m) old (cell m q a) c) ∙ ap wideTarget (getD-any (t .targets) (cell m q a) 0 n (omega (arith, target-count bs formed)));
       }
 
   pub marks-laid : (old ms : List ℕ) → n * m ≤ length ms → ms ≡ over (markCells t) old → MarksLaid t ms
@@ -94,7 +94,7 @@ module _ (bs : List ℕ) (taken : Taken bs) where
         few-letters = known .sizes .most-letters;
         few-pairs = known .sizes .most-pairs;
         start-state = known .start-state;
-        small-marks = marks-small bs taken;
+        small-marks = marks-small bs formed;
       }
 
 module _ (t : Table) (good : IsTable t) where
@@ -143,9 +143,9 @@ module _ (t : Table) (good : IsTable t) where
           let p : prohibitedByte t q a < 256 = lt-of-lt-of-le (small q a .0) (pow-mono {i = t .pairs} {j = 8} (omega (arith, good .few-pairs))) in
           rw (marks .entry q a l r) (omega arith)
 
-      pub laid-counts : (i q : ℕ) → q < t .states → metWithin s (requiredIn (t .letters) ms i) q ≡ counts t q (suc i)
+      pub laid-counts : (i q : ℕ) → q < t .states → someWithin s (requiredIn (t .letters) ms i) q ≡ counts t q (suc i)
       laid-counts i q l =
-          same-met s (systemOf t) go-laid laid-go (requiredIn (t .letters) ms i) (λ p a. requires t p a (suc i))
+          same-within s (systemOf t) go-laid laid-go (requiredIn (t .letters) ms i) (λ p a. requires t p a (suc i))
           (λ p a lp la. let e : suc i - 1 ≡ i = omega arith in rw (e, required p a lp la)) q l
 
       none-above : (i q : ℕ) → t .pairs ≤ i → counts t q (suc i) ≡ false

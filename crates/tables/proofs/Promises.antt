@@ -18,7 +18,7 @@ use Rattle.rules.specs.Tables.{tableOf, tableFault}
 use Rattle.rules.specs.Says.{over, components, ComponentsSay, ComponentsMean}
 use Rattle.rules.proofs.Bools.{and-parts}
 use Rattle.rules.proofs.Meanings.{components-mean}
-use Rattle.tables.specs.Parts.{Taken}
+use Rattle.tables.specs.Parts.{WellFormed}
 use Rattle.tables.specs.Layouts.{targetCells, markCells, layFault, LaySays, surveyFits}
 
 pub components-refused : (bs o : List ℕ) (r : ℕ) → r ≡ tableFault bs → (r ≡ 0 → ⊥) → ComponentsSay bs o o r
@@ -39,26 +39,26 @@ pub lay-refused : (bs ts ms : List ℕ) (r : ℕ) → r ≡ tableFault bs → (r
 lay-refused bs ts ms zero e d = absurd (d refl)
 lay-refused bs ts ms (suc r) e d = unlaid bs ts ms (suc r) d (rw (← e))
 
-module _ (bs : List ℕ) (taken : Taken bs) where
+module _ (bs : List ℕ) (formed : WellFormed bs) where
   pub components-short : (o : List ℕ) → length o < tableOf bs .states → ComponentsSay bs o o Refusal.arrays
   components-short o l =
-      let e = lt-ltb (length o) (tableOf bs .states) l in record { number = rw (taken, e); array = rw (taken, e) }
+      let e = lt-ltb (length o) (tableOf bs .states) l in record { number = rw (formed, e); array = rw (formed, e) }
 
   pub components-found : (o o′ : List ℕ) → tableOf bs .states ≤ length o → o′ ≡ over (components (tableOf bs)) o → ComponentsSay bs o o′ 0
   components-found o o′ l h =
-      let e = le-ltb (length o) (tableOf bs .states) l in record { number = rw (taken, e); array = rw (taken, e) h }
+      let e = le-ltb (length o) (tableOf bs .states) l in record { number = rw (formed, e); array = rw (formed, e) h }
 
   module _ (ts ms : List ℕ) where
     abbrev short : Bool
     short = let cells = tableOf bs .states * tableOf bs .letters in ltb (length ts) cells || ltb (length ms) cells
 
     pub lay-short : short ≡ true → LaySays bs ts ts ms ms Refusal.arrays 0 0 0
-    lay-short e = unlaid bs ts ms Refusal.arrays (λ z. omega arith) (rw (taken, e))
+    lay-short e = unlaid bs ts ms Refusal.arrays (λ z. omega arith) (rw (formed, e))
 
     pub laid : (ts′ ms′ : List ℕ) → short ≡ false → ts′ ≡ over (targetCells (tableOf bs)) ts → ms′ ≡ over (markCells (tableOf bs)) ms
         → LaySays bs ts ts′ ms ms′ 0 (tableOf bs .states) (tableOf bs .letters) (tableOf bs .start)
     laid ts′ ms′ e et em =
-        record { refusal = rw (taken, e); state-count = refl; letter-count = refl; start-state = refl; target-array = et; mark-array = em }
+        record { refusal = rw (formed, e); state-count = refl; letter-count = refl; start-state = refl; target-array = et; mark-array = em }
 
 -- a survey that fits has room
 pub survey-room : (n m a b c d : ℕ) → surveyFits n m a b c d ≡ true

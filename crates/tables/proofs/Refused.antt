@@ -11,7 +11,7 @@ use lib.ListN.{length, take, drop, length-take, length-drop}
 use Rattle.rules.specs.Basics.{firstOf, when}
 use Rattle.rules.specs.Limits.{headerSize, noState}
 use Rattle.rules.specs.Refusals as Refusal
-use Rattle.rules.specs.Tables.{Table, tableOf, tableFault, sizesFault, tableLength, targetFault, marksFault}
+use Rattle.rules.specs.Tables.{Table, tableOf, tableFault, badSizes, tableLength, badTargets, badMarks}
 use Rattle.rules.specs.Says.{CheckSays}
 
 module _ (bs : List ℕ) where
@@ -40,11 +40,11 @@ module _ (bs : List ℕ) where
   header-short a = rw a
 
   module _ (whole : ltb (length bs) headerSize ≡ false) where
-    pub sizes-bad : sizesFault (t .states) (t .letters) (t .pairs) ≡ true → CheckSays bs Refusal.sizes
+    pub sizes-bad : badSizes (t .states) (t .letters) (t .pairs) ≡ true → CheckSays bs Refusal.sizes
     unfolding tableFault
     sizes-bad a = rw (whole, a)
 
-    module _ (sizes : sizesFault (t .states) (t .letters) (t .pairs) ≡ false) where
+    module _ (sizes : badSizes (t .states) (t .letters) (t .pairs) ≡ false) where
       pub cells-short : ltb (length bs) size ≡ true → CheckSays bs Refusal.short
       unfolding tableFault
       cells-short a = rw (whole, sizes, a)
@@ -60,6 +60,6 @@ module _ (bs : List ℕ) where
           start-bad a = rw (whole, sizes, enough, exact, a)
 
           pub cells-judged : leb (t .states) (t .start) ≡ false
-              → CheckSays bs (firstOf (when (targetFault (t .states) noState (t .targets)) Refusal.target) (when (marksFault (t .pairs) (t .targets) (t .marks)) Refusal.marks))
+              → CheckSays bs (firstOf (when (badTargets (t .states) noState (t .targets)) Refusal.target) (when (badMarks (t .pairs) (t .targets) (t .marks)) Refusal.marks))
           unfolding tableFault
           cells-judged a = rw (whole, sizes, enough, exact, a)

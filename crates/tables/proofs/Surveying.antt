@@ -3,8 +3,8 @@
 --     listed             an array with a list at its front
 --     home-inside        which transitions are inside, by the numbers of components
 --     gathered-none, gathered-more     what each component meets, one state more
---     gathered-met       what is met within a state's component
---     MetBelow, met-more     what the inside transitions by the letters below a meet, one letter more
+--     gathered-all       what is met within a state's component
+--     CountedBelow, counted-more     what the inside transitions by the letters below a meet, one letter more
 use mathlib.Core.Path.{_≡_, refl, sym, _∙_}
 use mathlib.Core.Bool.{Bool, _&&_, or-comm}
 use mathlib.Core.List.{List}
@@ -20,9 +20,9 @@ use lib.Seq.{getD-set-same, getD-set-other}
 use borrow.Author.Tests.{eqb-true, eqb-false, eq-eqb, ne-eqb, ltb-true}
 use Rattle.rules.specs.Basics.{pick, bit, anyBelow, tabulate, asBits}
 use Rattle.rules.specs.Says.{over}
-use Rattle.rules.specs.Systems.{System, isInside, componentOf, metWithin}
+use Rattle.rules.specs.Systems.{System, isInside, componentOf, someWithin}
 use Rattle.rules.proofs.Bools.{by}
-use Rattle.rules.proofs.Reach.{together-refl, component-least, inside-component, met-component}
+use Rattle.rules.proofs.Reach.{together-refl, component-least, inside-component, within-component}
 use Rattle.tables.specs.Parts.{Listed, Gathered}
 use Rattle.rules.proofs.Filling.{over-at}
 use Rattle.rules.proofs.Bits.{bit-or, bit-none, bits-are}
@@ -31,12 +31,12 @@ pub listed : (n : ℕ) (g : ℕ → ℕ) (old xs : List ℕ) → n ≤ length xs
 listed n g old xs l e = record { enough = l; entry = λ q b. rw e (over-at g n old q b) }
 
 -- what the inside transitions by the letters below a of one state meet
-abbrev pub MetBelow : System → (ℕ → ℕ → ℕ → Bool) → ℕ → ℕ → ℕ → Type 0
-MetBelow s b q a met = (i : ℕ) → bit i met ≡ anyBelow a (λ c. isInside s q c && b i q c)
+abbrev pub CountedBelow : System → (ℕ → ℕ → ℕ → Bool) → ℕ → ℕ → ℕ → Type 0
+CountedBelow s b q a met = (i : ℕ) → bit i met ≡ anyBelow a (λ c. isInside s q c && b i q c)
 
-pub met-more : (s : System) (b : ℕ → ℕ → ℕ → Bool) (q a met marks : ℕ) → MetBelow s b q a met → ((i : ℕ) → bit i marks ≡ b i q a)
-    → MetBelow s b q (a + 1) (bitOr met (pick (isInside s q a) marks 0))
-met-more s b q a met marks h f i =
+pub counted-more : (s : System) (b : ℕ → ℕ → ℕ → Bool) (q a met marks : ℕ) → CountedBelow s b q a met → ((i : ℕ) → bit i marks ≡ b i q a)
+    → CountedBelow s b q (a + 1) (bitOr met (pick (isInside s q a) marks 0))
+counted-more s b q a met marks h f i =
     rw (add-one a, bit-or i met (pick (isInside s q a) marks 0), h i, kept)
     (or-comm (anyBelow a (λ c. isInside s q c && b i q c)) (isInside s q a && b i q a))
   where
@@ -58,7 +58,7 @@ module _ (s : System) where
     gathered-none sets z = record { tests = λ c i l. rw (z c) (bit-none i); below = λ c. rw (z c) (pow-pos k) }
 
     gathered-at : (q : ℕ) (sets : List ℕ) (met : ℕ) → q < s .states → s .states ≤ length sets
-        → MetBelow s b q (s .letters) met → met < 2 ^ k → Gathered s b k q sets
+        → CountedBelow s b q (s .letters) met → met < 2 ^ k → Gathered s b k q sets
         → Gathered s b k (q + 1) (set sets (componentOf s q) (bitOr (getD sets (componentOf s q) 0) met))
     gathered-at q sets met l e m small g =
         record { tests = met-at; below = small-at }
@@ -92,12 +92,12 @@ module _ (s : System) where
             (λ d. rw (getD-set-other sets home c (bitOr (getD sets home 0) met) 0 (eqb-false c home d)) (g .below c))
 
     pub gathered-more : (components sets : List ℕ) (q met : ℕ) → Listed (s .states) (componentOf s) components → q < s .states → s .states ≤ length sets
-        → MetBelow s b q (s .letters) met → met < 2 ^ k → Gathered s b k q sets
+        → CountedBelow s b q (s .letters) met → met < 2 ^ k → Gathered s b k q sets
         → Gathered s b k (q + 1) (set sets (getD components q 0) (bitOr (getD sets (getD components q 0) 0) met))
     gathered-more components sets q met f l e m small g = rw (f .entry q l) (gathered-at q sets met l e m small g)
 
-    pub gathered-met : (components sets : List ℕ) → Listed (s .states) (componentOf s) components → Gathered s b k (s .states) sets → (q : ℕ) → q < s .states
-        → getD sets (getD components q 0) 0 ≡ asBits k (λ i. metWithin s (b i) q)
-    gathered-met components sets f g q l =
+    pub gathered-all : (components sets : List ℕ) → Listed (s .states) (componentOf s) components → Gathered s b k (s .states) sets → (q : ℕ) → q < s .states
+        → getD sets (getD components q 0) 0 ≡ asBits k (λ i. someWithin s (b i) q)
+    gathered-all components sets f g q l =
         rw (f .entry q l)
-        (bits-are k (getD sets (componentOf s q) 0) (λ i. metWithin s (b i) q) (g .below (componentOf s q)) (λ i li. g .tests (componentOf s q) i (component-below q l) ∙ sym (met-component s (b i) q l)))
+        (bits-are k (getD sets (componentOf s q) 0) (λ i. someWithin s (b i) q) (g .below (componentOf s q)) (λ i li. g .tests (componentOf s q) i (component-below q l) ∙ sym (within-component s (b i) q l)))

@@ -22,7 +22,7 @@ use Rattle.rules.specs.Basics.{pick, firstOf, when, tabulate, bit, asBits}
 use Rattle.rules.specs.Judges.{paritySystem}
 use Rattle.rules.specs.Limits.{maxStates, maxLetters, maxPairs, noState, noRow}
 use Rattle.rules.specs.Refusals as Refusal
-use Rattle.rules.specs.Systems.{componentOf, metWithin, cell}
+use Rattle.rules.specs.Systems.{componentOf, someWithin, cell}
 use Rattle.rules.specs.Tables.{Table, tableOf, tableFault, targetOf, prohibitedByte, requiredByte, counts}
 use Rattle.rules.specs.Says.{over}
 
@@ -84,7 +84,7 @@ abbrev pub pairBits : ℕ
 pairBits = 8
 
 abbrev pub countedIn : ℕ → ℕ → List ℕ → List ℕ → ℕ → ℕ
-countedIn n m ts ms q = asBits pairBits (λ i. metWithin (paritySystem n m ts) (requiredIn m ms i) q)
+countedIn n m ts ms q = asBits pairBits (λ i. someWithin (paritySystem n m ts) (requiredIn m ms i) q)
 
 pub record SurveySays (n m : ℕ) (ts ms hs hs′ cs cs′ : List ℕ) (r : Bool) : Type 0 where
   pub answer : r ≡ surveyFits n m (length ts) (length ms) (length hs) (length cs)

@@ -1,5 +1,5 @@
 -- What the functions below the calls ask and leave, by name.
---     Taken bs               the bytes are a table that is taken
+--     WellFormed bs               the bytes are a table that is formed
 --     statesOf bs            its number of states
 --     systemIn bs            its transition system
 --     Listed n f xs          the first n entries of xs are f 0, f 1 ..
@@ -18,8 +18,8 @@ use Rattle.rules.specs.Limits.{maxStates, maxLetters}
 use Rattle.rules.specs.Systems.{System, isInside, componentOf}
 use Rattle.rules.specs.Tables.{tableOf, tableFault, systemOf}
 
-abbrev pub Taken : List ℕ → Type 0
-Taken bs = tableFault bs ≡ 0
+abbrev pub WellFormed : List ℕ → Type 0
+WellFormed bs = tableFault bs ≡ 0
 
 abbrev pub statesOf : List ℕ → ℕ
 statesOf bs = tableOf bs .states

@@ -1,6 +1,6 @@
 // The parts of the table check that look at several sizes or at every cell. The loops have no way out but their end: each cell
 // costs the same few operations, with no branch.
-use crate::marks_word;
+use crate::mask_of;
 use rules::limit::MAX_LETTERS;
 use rules::limit::MAX_PAIRS;
 use rules::limit::MAX_STATES;
@@ -11,11 +11,11 @@ ghost use lib.Dec.{eqb};
 ghost use lib.ListN.{length};
 ghost use Rattle.rules.specs.Basics.{pick};
 ghost use Rattle.rules.specs.Limits.{maxPairs, noState};
-ghost use Rattle.rules.specs.Tables.{sizesFault, targetFault, marksFault};
+ghost use Rattle.rules.specs.Tables.{badSizes, badTargets, badMarks};
 
 // A size is out of range.
-pub(crate) fn sizes_fault(n: u8, m: u8, k: u8) -> bool
-    ensures { λ r. ⌜ r ≡ sizesFault n m k ⌝ }
+pub(crate) fn bad_sizes(n: u8, m: u8, k: u8) -> bool
+    ensures { λ r. ⌜ r ≡ badSizes n m k ⌝ }
 {
     let states = (1 <= n) & (n <= MAX_STATES);
     let letters = (1 <= m) & (m <= MAX_LETTERS);
@@ -23,8 +23,8 @@ pub(crate) fn sizes_fault(n: u8, m: u8, k: u8) -> bool
 }
 
 // Some target is neither a state nor the missing one.
-pub(crate) fn target_fault(targets: &[u8], n: u8) -> bool
-    ensures { λ r. ⌜ r ≡ targetFault n noState (now (targets .entry)) ⌝ }
+pub(crate) fn bad_targets(targets: &[u8], n: u8) -> bool
+    ensures { λ r. ⌜ r ≡ badTargets n noState (now (targets .entry)) ⌝ }
 {
     let mut bad = false;
     let mut c = 0;
@@ -45,17 +45,17 @@ fn barred_bits(target: u8, above: u16) -> u16
 
 // Some cell has a bit above pair k, or any bit on a missing transition. Both sets of a cell are tested as one word, which is read from
 // its two bytes at once.
-pub(crate) fn marks_fault(targets: &[u8], marks: &[u8], k: u8) -> bool
+pub(crate) fn bad_marks(targets: &[u8], marks: &[u8], k: u8) -> bool
     requires { ⌜ (2 * length (now targets) ≤ length (now marks)) × (k ≤ maxPairs) ⌝ }
-    ensures { λ r. ⌜ r ≡ marksFault k (now (targets .entry)) (now (marks .entry)) ⌝ }
+    ensures { λ r. ⌜ r ≡ badMarks k (now (targets .entry)) (now (marks .entry)) ⌝ }
 {
     let high = 256 - (1u16 << k);
     let above = high * 256 + high;
     let mut bad = false;
     let mut c = 0;
     while c < targets.len() {
-        let word = marks_word(marks[2 * c], marks[2 * c + 1]);
-        bad = bad | (word & barred_bits(targets[c], above) != 0);
+        let mask = mask_of(marks[2 * c], marks[2 * c + 1]);
+        bad = bad | (mask & barred_bits(targets[c], above) != 0);
         c += 1;
     }
     bad

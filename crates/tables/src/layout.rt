@@ -1,5 +1,5 @@
 // From bytes to two arrays with an entry for each cell. This and the check are all that knows the bytes of a table.
-use crate::marks_word;
+use crate::mask_of;
 use rules::limit::NO_ROW;
 use rules::limit::NO_STATE;
 ghost use mathlib.Core.Path.{_≡_};
@@ -41,7 +41,7 @@ pub(crate) fn lay_marks(bytes: &[u8], cells: usize, marks: &mut [u16])
     let mut c = 0;
     // the marks of the cells below c are laid out
     while c < cells {
-        marks[c] = marks_word(bytes[2 * c], bytes[2 * c + 1]);
+        marks[c] = mask_of(bytes[2 * c], bytes[2 * c + 1]);
         c += 1;
     }
 }

@@ -1,7 +1,7 @@
 // Checks a Rabin table, finds its components, and lays it out for a translation: nobody above looks at its bytes.
 // It rests on `rules` and on `components`: `check_table` and `find_components` keep the promises `CheckSays` and `ComponentsSay` of the rules, and
 // `lay_table` and `survey_cells` keep `LaySays` and `SurveySays` of this crate, for all bytes, sizes and arrays; `letters_of` reads the number of
-// letters, and `marks_word` joins the marks of a transition.
+// letters, and `mask_of` joins the marks of a transition.
 use rules::limit::HEADER_SIZE;
 use rules::limit::MAX_LETTERS;
 use rules::limit::MAX_STATES;
@@ -29,7 +29,7 @@ pub fn letters_of(table: &[u8]) -> u8
 }
 
 // The two sets of marks of a transition as one word, the required pairs above the prohibited ones: read, joined and tested at once.
-pub fn marks_word(prohibited: u8, required: u8) -> u16
+pub fn mask_of(prohibited: u8, required: u8) -> u16
     ensures { λ r. ⌜ r ≡ required * 256 + prohibited ⌝ }
 {
     required as u16 * 256 + prohibited as u16
@@ -45,7 +45,7 @@ pub fn check_table(table: &[u8]) -> u8
     let n = table[0];
     let m = table[1];
     let k = table[2];
-    if check::sizes_fault(n, m, k) {
+    if check::bad_sizes(n, m, k) {
         return refusal::SIZES;
     }
     let cells = n as usize * m as usize;
@@ -61,12 +61,12 @@ pub fn check_table(table: &[u8]) -> u8
     }
     let marks_at = HEADER_SIZE + cells;
     let targets = &table[HEADER_SIZE..marks_at];
-    let bad_target = check::target_fault(targets, n);
-    let bad_marks = check::marks_fault(targets, &table[marks_at..length], k);
-    if bad_target {
+    let wrong_target = check::bad_targets(targets, n);
+    let wrong_marks = check::bad_marks(targets, &table[marks_at..length], k);
+    if wrong_target {
         return refusal::TARGET;
     }
-    if bad_marks {
+    if wrong_marks {
         return refusal::MARKS;
     }
     0

@@ -33,7 +33,7 @@ fn kept(marks: u16, stays: bool) -> u8
 }
 
 // The pairs that the inside transitions of q make count.
-fn met_pairs(n: usize, m: usize, targets: &[u16], marks: &[u16], homes: &[u16], q: usize) -> u8
+fn pairs_of_state(n: usize, m: usize, targets: &[u16], marks: &[u16], homes: &[u16], q: usize) -> u8
     requires { ⌜ CellsRoom n m (now targets) (now marks) (now homes) × (q < n) ⌝ }
     ensures { λ r. ⌜ ((i : ℕ) → bit i r ≡ anyBelow m (λ a. isInside (paritySystem n m (now (targets .entry))) q a && requiredIn m (now (marks .entry)) i q a)) ⌝ }
 {
@@ -59,7 +59,7 @@ fn gather(n: usize, m: usize, targets: &[u16], marks: &[u16], homes: &[u16], set
     // what the states below q make count is gathered
     while q < n {
         let home = homes[q] as usize;
-        sets[home] = sets[home] | met_pairs(n, m, targets, marks, homes, q);
+        sets[home] = sets[home] | pairs_of_state(n, m, targets, marks, homes, q);
         q += 1;
     }
 }

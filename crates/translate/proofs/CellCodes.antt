@@ -1,7 +1,7 @@
 -- The codes of cells, from a table that is laid out and what was surveyed of it.
---     lay-fault            with room for the cells of a table that is taken, laying out refuses nothing but the table
+--     lay-fault            with room for the cells of a table that is formed, laying out refuses nothing but the table
 --     few-cells, many-cells     there is such room in small arrays for a table of few bytes, in large ones for any
---     LaidTable t n m start ts ms, laid-table     what is laid out of a table that is taken: its sizes and its start, and its cells in the arrays
+--     LaidTable t n m start ts ms, laid-table     what is laid out of a table that is formed: its sizes and its start, and its cells in the arrays
 --     key-small, code-entered  the key at which a state is entered, by any set of pairs, and a code by such keys
 --     rising-marked        the rising pairs of a state, from the set of the pairs that count
 --     laid-fit, surveyed       there is room for the cells that are laid out where there is for the table's, and what a survey of them leaves
@@ -26,11 +26,11 @@ use Rattle.rules.specs.Tables.{Table, tableOf, tableFault, systemOf, targetOf, 
 use Rattle.rules.proofs.Arrays.{cell-within}
 use Rattle.rules.proofs.Bits.{bit-and, bit-over, as-bits-below, as-bits-at, bits-are}
 use Rattle.rules.proofs.Bools.{by}
-use Rattle.rules.proofs.Refusals.{taken-table}
-use Rattle.records.specs.Words.{limit, isMarked}
+use Rattle.rules.proofs.Refusals.{table-facts}
+use Rattle.records.specs.Packed.{limit, isMarked}
 use Rattle.records.proofs.Packing.{kept-below, rising-below}
 use Rattle.tables.specs.Layouts.{wideTarget, TargetsLaid, MarksLaid, IsTable, countedPairs, countedIn, layFault, LaySays, surveyFits, SurveySays}
-use Rattle.tables.specs.Parts.{Taken, Listed}
+use Rattle.tables.specs.Parts.{WellFormed, Listed}
 use Rattle.tables.proofs.Laying.{targets-laid, marks-laid, laid-homes, laid-counted}
 use Rattle.tables.proofs.Surveying.{home-inside, listed}
 use Rattle.explore.specs.Cells.{span}
@@ -49,10 +49,10 @@ module _ (bs : List ℕ) where
       first-only (tableFault bs) _ (λ z. rw (le-ltb a cells (la z), le-ltb b cells (lb z)))
 
   pub few-cells : length bs ≤ 196 → HasCells bs 64
-  few-cells l taken = let e = taken-table bs taken .exact in omega arith
+  few-cells l formed = let e = table-facts bs formed .exact in omega arith
 
   pub many-cells : HasCells bs (maxStates * maxLetters)
-  many-cells taken = taken-table bs taken .sizes .most-cells
+  many-cells formed = table-facts bs formed .sizes .most-cells
 
 -- ---- the codes of a laid-out table
 pub record LaidTable (t : Table) (n m start : ℕ) (ts ms : List ℕ) : Type 0 where
@@ -62,15 +62,15 @@ pub record LaidTable (t : Table) (n m start : ℕ) (ts ms : List ℕ) : Type 0 w
   pub targets : TargetsLaid t ts
   pub marks : MarksLaid t ms
 
-pub laid-table : {bs ts ts′ ms ms′ : List ℕ} {number n m start : ℕ} → Taken bs → number ≡ 0 → length ts′ ≡ length ts → length ms′ ≡ length ms
+pub laid-table : {bs ts ts′ ms ms′ : List ℕ} {number n m start : ℕ} → WellFormed bs → number ≡ 0 → length ts′ ≡ length ts → length ms′ ≡ length ms
     → HasCells bs (length ts) → HasCells bs (length ms) → LaySays bs ts ts′ ms ms′ number n m start → LaidTable (tableOf bs) n m start ts′ ms′
-laid-table {bs} {ts} {ts′} {ms} {ms′} taken z kt km lt lm s =
+laid-table {bs} {ts} {ts′} {ms} {ms′} formed z kt km lt lm s =
     record {
       states = rw z at (s .state-count);
       letters = rw z at (s .letter-count);
       start-state = rw z at (s .start-state);
-      targets = targets-laid bs taken ts ts′ (omega (arith, lt taken)) (rw z at (s .target-array));
-      marks = marks-laid bs taken ms ms′ (omega (arith, lm taken)) (rw z at (s .mark-array));
+      targets = targets-laid bs formed ts ts′ (omega (arith, lt formed)) (rw z at (s .target-array));
+      marks = marks-laid bs formed ms ms′ (omega (arith, lm formed)) (rw z at (s .mark-array));
     }
 
 -- marks as bits, cut to the pairs that count

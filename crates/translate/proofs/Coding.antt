@@ -24,14 +24,14 @@ use Rattle.rules.proofs.Bits.{as-bits-below, as-bits-at}
 use Rattle.rules.proofs.Bools.{by, bool-ext}
 use Rattle.rules.proofs.RabinTables.{table-same, stood-rearranges, ordering-holds, counted-parts, moved-ordering}
 use Rattle.rules.specs.Says.{areShort}
-use Rattle.rules.proofs.Refusals.{TakenTable, taken-table}
+use Rattle.rules.proofs.Refusals.{TableFacts, table-facts}
 use Rattle.rules.proofs.Sets.{fails-at}
 use Rattle.rules.proofs.Steps.{step-missing, step-inside, step-crossing}
-use Rattle.records.specs.Words.{packed, places, isMarked, marksIn}
+use Rattle.records.specs.Packed.{packed, places, isMarked, marksIn}
 use Rattle.records.proofs.Packing.{moved-packed, priority-packed}
-use Rattle.tables.specs.Parts.{Taken}
+use Rattle.tables.specs.Parts.{WellFormed}
 use Rattle.translate.specs.Keys.{rowKey, keyRow, IsRow, IsKey}
-use Rattle.translate.proofs.RowKeys.{row-pairs, row-source, row-word, row-of-key, row-is-key, entry-is-row, entry-small}
+use Rattle.translate.proofs.RowKeys.{row-pairs, row-source, row-code, row-of-key, row-is-key, entry-is-row, entry-small}
 use Rattle.explore.specs.Cells as Key
 use Rattle.explore.specs.Effects.{effectBy, keyPlan}
 use Rattle.explore.specs.Exploring.{statesIn, isUnfit}
@@ -47,7 +47,7 @@ parts-above x y l = omega arith
 parts-high : (x y : ℕ) → y < 65536 → x < 1024 → Key.targetIn (Key.insideCode x y) ≡ x
 parts-high x y l h = ap (λ (z : ℕ). z % 1024) (parts-above x y l) ∙ omega arith
 
-module _ (bs : List ℕ) (taken : Taken bs) (cells : List ℕ) (codes : TableCodes (tableOf bs) cells) where
+module _ (bs : List ℕ) (formed : WellFormed bs) (cells : List ℕ) (codes : TableCodes (tableOf bs) cells) where
   abbrev t : Table
   t = tableOf bs
 
@@ -57,8 +57,8 @@ module _ (bs : List ℕ) (taken : Taken bs) (cells : List ℕ) (codes : TableCod
   abbrev g : Plan (Row (List ℕ))
   g = tablePlan t
 
-  table : TakenTable bs
-  table = taken-table bs taken
+  table : TableFacts bs
+  table = table-facts bs formed
 
   few : t .pairs ≤ maxPairs
   few = table .sizes .most-pairs
@@ -93,7 +93,7 @@ module _ (bs : List ℕ) (taken : Taken bs) (cells : List ℕ) (codes : TableCod
     code-is = codes .entry q a (good .state) la
 
     memory-is : Key.memoryIn v ≡ packed (r .memory)
-    memory-is = ap Key.memoryIn (sym (key .exact)) ∙ row-word t few r good
+    memory-is = ap Key.memoryIn (sym (key .exact)) ∙ row-code t few r good
 
     -- a pair of the record counts, so that the cut marks have its bit
     cut-marked : (b : ℕ → Bool) (i : ℕ) → isIn i (r .memory) ≡ true → isMarked (cutMarks t q b) i ≡ b i
@@ -172,7 +172,7 @@ module _ (bs : List ℕ) (taken : Taken bs) (cells : List ℕ) (codes : TableCod
         let s = step-inside (systemOf t) (recordKeeper t) r a h i in
         let next = row end (moved asTheyStood (prohibits t q a) (r .memory)) in
         let is-row = inside-row h i in
-        let small : packed (next .memory) < Key.span = omega (arith, row-word t few next is-row) in
+        let small : packed (next .memory) < Key.span = omega (arith, row-code t few next is-row) in
         let n = table .sizes .most-states in
         let p = cut-small q (prohibits t q a) in
         let y = cut-small q (requires t q a) in

@@ -22,16 +22,16 @@ use Rattle.rules.specs.Refusals as Refusal
 use Rattle.rules.specs.Records.{decimal}
 use Rattle.rules.specs.Rows.{Row, Plan, rowsOf, isFull}
 use Rattle.rules.specs.Tables.{Table, tableOf, tableFault, tablePlan}
-use Rattle.rules.specs.Claims.{targets, priorities, sourceStates, recordNumbers}
+use Rattle.rules.specs.Claims.{rowTargets, rowPriorities, sourceStates, recordNumbers}
 use Rattle.rules.specs.Says.{areShort, translateFault, padded, afterwards, TranslateSays, TranslationAgrees, TranslationMeans, rowArrays}
 use Rattle.rules.proofs.Bools.{by}
 use Rattle.rules.proofs.Arrays.{getD-any, cells-length, mapped-at}
 use Rattle.rules.proofs.Coding.{all-at, row-coded, rows-coded, rows-good, full-coded, targets-coded, priorities-coded}
 use Rattle.rules.proofs.Filling.{beyond-then, beyond-wider, over-front, over-beyond, padded-is, filled-is, cleared-is}
-use Rattle.rules.proofs.Refusals.{TakenArrays, arrays-taken, taken-table, fault-below}
+use Rattle.rules.proofs.Refusals.{ArrayFacts, arrays-enough, table-facts, fault-below}
 use Rattle.rules.proofs.Demands.{says-agrees}
 use Rattle.rules.proofs.Meanings.{translation-means}
-use Rattle.tables.specs.Parts.{Taken}
+use Rattle.tables.specs.Parts.{WellFormed}
 use Rattle.explore.specs.declared.Rule.the-variants.{Pairs}
 use Rattle.explore.specs.declared.Explored.{Explored}
 use Rattle.explore.specs.declared.Explored.the-variants.{Rows, Full}
@@ -50,20 +50,20 @@ translate-refused bs c ts ps ss es (suc r) f g =
     record {
       refusal = rw (← f);
       count = rw (eqb·suc-zero r);
-      target-array = kept (c * tableOf bs .letters) (targets bs c) ts;
-      priority-array = kept (c * tableOf bs .letters) (priorities bs c) ps;
-      state-array = kept c (sourceStates bs c) ss;
+      target-array = kept (c * tableOf bs .letters) (rowTargets bs c) ts;
+      priority-array = kept (c * tableOf bs .letters) (rowPriorities bs c) ps;
+      source-array = kept c (sourceStates bs c) ss;
       record-array = kept c (recordNumbers bs c) es;
     }
   where
     kept : (k : ℕ) (xs o : List ℕ) → o ≡ afterwards (suc r) k xs o
     kept k xs o = rw (eqb·suc-zero r, ne-eqb (suc r) Refusal.full (λ z. omega (arith, fault-below bs)))
 
-pub translate-short : (bs : List ℕ) (c : ℕ) (ts ps ss es : List ℕ) → Taken bs → areShort c (tableOf bs .letters) (length ts) (length ps) (length ss) (length es) ≡ true
+pub translate-short : (bs : List ℕ) (c : ℕ) (ts ps ss es : List ℕ) → WellFormed bs → areShort c (tableOf bs .letters) (length ts) (length ps) (length ss) (length es) ≡ true
     → TranslateSays bs c (rowArrays ts ps ss es) (rowArrays ts ps ss es) Refusal.arrays 0
 unfolding translateFault
-translate-short bs c ts ps ss es taken s =
-    record { refusal = rw (taken, s); count = refl; target-array = refl; priority-array = refl; state-array = refl; record-array = refl }
+translate-short bs c ts ps ss es formed s =
+    record { refusal = rw (formed, s); count = refl; target-array = refl; priority-array = refl; source-array = refl; record-array = refl }
 
 -- the table's refusal or 7, before anything is written
 pub translate-nothing : (bs : List ℕ) (c letters : ℕ) (ts ps ss es : List ℕ) (short : Bool) (r : ℕ) → letters ≡ tableOf bs .letters
@@ -80,8 +80,8 @@ translate-nothing bs c letters ts ps ss es short r m s f g =
         (λ h. let z : r ≡ Refusal.arrays = f ∙ rw (e, h) in rw z (translate-short bs c ts ps ss es e (rw m at (sym s ∙ h))))
         (λ h. absurd (g (f ∙ rw (e, h))))
 
--- a table that is taken, and the test of the arrays by its letters
-module _ (bs : List ℕ) (letters c : ℕ) (ts ps ss es : List ℕ) (taken : Taken bs) (same-letters : letters ≡ tableOf bs .letters) where
+-- a table that is formed, and the test of the arrays by its letters
+module _ (bs : List ℕ) (letters c : ℕ) (ts ps ss es : List ℕ) (formed : WellFormed bs) (same-letters : letters ≡ tableOf bs .letters) where
   abbrev t : Table
   t = tableOf bs
 
@@ -95,8 +95,8 @@ module _ (bs : List ℕ) (letters c : ℕ) (ts ps ss es : List ℕ) (taken : Tak
   rows = rowsOf g c
 
   -- there is room, and the rows have been looked for
-  module _ (enough : TakenArrays c letters (length ts) (length ps) (length ss) (length es)) {cells : List ℕ} {start : ℕ} (same-start : start ≡ entryKey t (t .start)) (codes : TableCodes t cells) {es₁ ts₁ ps₁ : List ℕ} {x : Explored} (explored : ExploreSays (record { rule = Pairs; letters = letters; start = start }) cells c (lent es ts ps) (lent es₁ ts₁ ps₁) x) where
-    room : TakenArrays c m (length ts) (length ps) (length ss) (length es)
+  module _ (enough : ArrayFacts c letters (length ts) (length ps) (length ss) (length es)) {cells : List ℕ} {start : ℕ} (same-start : start ≡ entryKey t (t .start)) (codes : TableCodes t cells) {es₁ ts₁ ps₁ : List ℕ} {x : Explored} (explored : ExploreSays (record { rule = Pairs; letters = letters; start = start }) cells c (lent es ts ps) (lent es₁ ts₁ ps₁) x) where
+    room : ArrayFacts c m (length ts) (length ps) (length ss) (length es)
     room = rw same-letters at enough
 
     says : ExploreSays (taskOf t) cells c (lent es ts ps) (lent es₁ ts₁ ps₁) x
@@ -109,17 +109,17 @@ module _ (bs : List ℕ) (letters c : ℕ) (ts ps ss es : List ℕ) (taken : Tak
     keys = rowsOf k c
 
     coding : Codes k g keyRow (IsKey t)
-    coding = table-codes bs taken cells codes
+    coding = table-codes bs formed cells codes
 
     -- nor is an array of keys as long as that of the record numbers too short
     keys-fit : areShort c m (length ts) (length ps) (length es) (length es) ≡ false
     keys-fit =
-        arrays-taken (record { some-rows = room .some-rows; most-rows = room .most-rows; target-room = room .target-room; priority-room = room .priority-room; state-room = room .record-room; record-room = room .record-room })
+        arrays-enough (record { some-rows = room .some-rows; most-rows = room .most-rows; target-room = room .target-room; priority-room = room .priority-room; state-room = room .record-room; record-room = room .record-room })
 
     answer : x ≡ pick (isFull g c) Full (Rows (length keys))
     answer =
         says .answer
-        ∙ rw (table-fit bs taken cells codes c (length ts) (length ps) (length es) keys-fit, full-coded k g keyRow (IsKey t) coding c)
+        ∙ rw (table-fit bs formed cells codes c (length ts) (length ps) (length es) keys-fit, full-coded k g keyRow (IsKey t) coding c)
 
     -- no more rows than the capacity
     by-answer : {C : Type 0} → (isFull g c ≡ true → x ≡ Full → C) → (isFull g c ≡ false → x ≡ Rows (length keys) → C) → C
@@ -153,7 +153,7 @@ module _ (bs : List ℕ) (letters c : ℕ) (ts ps ss es : List ℕ) (taken : Tak
         rw k
         (by-answer
         (λ e z. rw z (λ l. absurd (omega arith)))
-        (λ e z. rw z (λ l. rw (key-at e z i l) (omega (arith, good-key e z i .is-row .state, taken-table bs taken .sizes .most-states)))))
+        (λ e z. rw z (λ l. rw (key-at e z i l) (omega (arith, good-key e z i .is-row .state, table-facts bs formed .sizes .most-states)))))
 
     module _ {ts′ ps′ ss′ es′ : List ℕ} (left : RowsLeft m (rowsKept x) c ts₁ ts′ ps₁ ps′ ss ss′ es₁ es′) where
       abbrev Said : Type 0
@@ -167,11 +167,11 @@ module _ (bs : List ℕ) (letters c : ℕ) (ts ps ss es : List ℕ) (taken : Tak
           let u = clear .unpacked in
           rw z
           (record {
-            refusal = rw (taken, arrays-taken room, e);
+            refusal = rw (formed, arrays-enough room, e);
             count = refl;
             target-array = cleared-is (zero-mul m) (room .target-room) (a .1) (clear .target-array);
             priority-array = cleared-is (zero-mul m) (room .priority-room) (a .2) (clear .priority-array);
-            state-array = cleared-is refl (room .state-room) (beyond-wider (omega arith) (u .state-rest)) (clear .state-array);
+            source-array = cleared-is refl (room .state-room) (beyond-wider (omega arith) (u .state-rest)) (clear .source-array);
             record-array = cleared-is refl (room .record-room) (beyond-then (a .0) (beyond-wider (omega arith) (u .key-rest))) (clear .number-array);
           })
 
@@ -194,11 +194,11 @@ module _ (bs : List ℕ) (letters c : ℕ) (ts ps ss es : List ℕ) (taken : Tak
           let ps-are = priorities-coded k g keyRow (IsKey t) coding c in
           rw z
           (record {
-            refusal = rw (taken, arrays-taken room, e);
+            refusal = rw (formed, arrays-enough room, e);
             count = same-length;
-            target-array = filled-is ts (targets bs c) (cells-length _ m rows ∙ rw same-length) cells-few (room .target-room) (a .1 ∙ rw ts-are) (clear .target-array);
-            priority-array = filled-is ps (priorities bs c) (cells-length _ m rows ∙ rw same-length) cells-few (room .priority-room) (a .2 ∙ rw ps-are) (clear .priority-array);
-            state-array = rows-are (λ r. r .source) (room .state-room) enough (beyond-wider enough (u .state-rest)) (clear .state-array) (λ i l. u .states i l ∙ ap (λ (r : Row (List ℕ)). r .source) (row-at e z i l));
+            target-array = filled-is ts (rowTargets bs c) (cells-length _ m rows ∙ rw same-length) cells-few (room .target-room) (a .1 ∙ rw ts-are) (clear .target-array);
+            priority-array = filled-is ps (rowPriorities bs c) (cells-length _ m rows ∙ rw same-length) cells-few (room .priority-room) (a .2 ∙ rw ps-are) (clear .priority-array);
+            source-array = rows-are (λ r. r .source) (room .state-room) enough (beyond-wider enough (u .state-rest)) (clear .source-array) (λ i l. u .states i l ∙ ap (λ (r : Row (List ℕ)). r .source) (row-at e z i l));
             record-array = rows-are (λ r. decimal (r .memory)) (room .record-room) enough (beyond-then (over-beyond keys (a .0) enough (room .record-room)) (beyond-wider enough (u .key-rest))) (clear .number-array) (λ i l. u .numbers i l ∙ ap (λ (r : Row (List ℕ)). decimal (r .memory)) (row-at e z i l));
           })
 

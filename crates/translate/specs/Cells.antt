@@ -10,7 +10,7 @@
 --     CellsRoom n m ..     the sizes are in range, and the arrays have an entry for each cell or each state
 --     Written n m f cells  the cells hold what f says of their state and letter
 --     TableCodes t cells   the codes of all cells, and nothing behind them
---     HasCells bs k        an array of k entries has room for the cells of the table that the bytes say, if it is taken
+--     HasCells bs k        an array of k entries has room for the cells of the table that the bytes say, if it is formed
 --     fewCells             the cells for which small arrays are enough
 --     EncodeSays bs short cells number used start     encoding: the table's refusal, then 7 if `short`; else its codes in the first cells, and the
 --                          key of the first row
@@ -27,8 +27,8 @@ use Rattle.rules.specs.Refusals as Refusal
 use Rattle.rules.specs.Systems.{isInside, cell}
 use Rattle.rules.specs.Rows.{row}
 use Rattle.rules.specs.Tables.{Table, tableOf, tableFault, systemOf, targetOf, prohibits, requires, counts, rising}
-use Rattle.records.specs.Words.{limit, isMarked, packed}
-use Rattle.tables.specs.Parts.{Taken}
+use Rattle.records.specs.Packed.{limit, isMarked, packed}
+use Rattle.tables.specs.Parts.{WellFormed}
 use Rattle.explore.specs.declared.Task.{Task}
 use Rattle.explore.specs.declared.Rule.the-variants.{Pairs}
 use Rattle.explore.specs.Cells.{keyOf, crossingCode, insideCode}
@@ -77,7 +77,7 @@ pub record TableCodes (t : Table) (cells : List ℕ) : Type 0 where
   pub entry : (q a : ℕ) → q < t .states → a < t .letters → getD cells (cell (t .letters) q a) 0 ≡ cellCode t q a
 
 abbrev pub HasCells : List ℕ → ℕ → Type 0
-HasCells bs k = Taken bs → tableOf bs .states * tableOf bs .letters ≤ k
+HasCells bs k = WellFormed bs → tableOf bs .states * tableOf bs .letters ≤ k
 
 abbrev pub fewCells : ℕ
 fewCells = 64

@@ -1,4 +1,4 @@
--- Rows of a table's translation as keys: the memory is the record's word.
+-- Rows of a table's translation as keys: the memory is the record's code.
 --     rowKey r             the key of a row
 --     keyRow v             the row that a key stands for
 --     numberIn v           its record's number
@@ -12,7 +12,7 @@ use Rattle.rules.specs.Limits.{maxPairs}
 use Rattle.rules.specs.Records.{decimal}
 use Rattle.rules.specs.Rows.{Row, row}
 use Rattle.rules.specs.Tables.{Table, IsOrdering}
-use Rattle.records.specs.Words.{packed, pairsIn}
+use Rattle.records.specs.Packed.{packed, pairsIn}
 use Rattle.explore.specs.Cells.{keyOf, sourceIn, memoryIn}
 
 abbrev pub rowKey : Row (List ℕ) → ℕ

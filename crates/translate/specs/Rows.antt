@@ -26,7 +26,7 @@ pub record RowsLeft (m n c : ℕ) (ts ts′ ps ps′ ss ss′ es es′ : List �
   pub unpacked : Unpacked n es numbers ss states
   pub target-array : Cleared (n * m) (c * m) ts ts′
   pub priority-array : Cleared (n * m) (c * m) ps ps′
-  pub state-array : Cleared n c states ss′
+  pub source-array : Cleared n c states ss′
   pub number-array : Cleared n c numbers es′
 
 abbrev pub refusalOf : Explored → ℕ

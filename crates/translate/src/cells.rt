@@ -54,7 +54,7 @@ fn write_entries(n: usize, counted: &[u8], entries: &mut [u32])
     // the keys of the states below q are written
     while q < n {
         let order = Record::rising(counted[q]);
-        entries[q] = q as u32 * SPAN + order.word;
+        entries[q] = q as u32 * SPAN + order.code;
         q += 1;
     }
 }

@@ -19,7 +19,7 @@ fn unpack(n: usize, keys: &mut [u32], sources: &mut [u8])
     while i < n {
         let key = keys[i];
         sources[i] = (key / SPAN) as u8;
-        let order = Record { word: key % SPAN };
+        let order = Record { code: key % SPAN };
         keys[i] = order.number();
         i += 1;
     }

@@ -2,7 +2,7 @@
 -- translated both judgements are the same, and each judge's that it gives its judgement; `letters_of` reads the table's letters for them.
 use native.Mathlib.Omega.{arith}
 use borrow.Author.Needs.{needs}
-use Rattle.judge.proofs.Judgements.{judges-agree}
+use Rattle.judge.proofs.Judgements.{answers-agree}
 use Rattle.agreement.proofs.judge_both.Statement.{statement}
 use Rattle.agreement.proofs.judge_both.Tie as tie
 
@@ -15,7 +15,7 @@ returns c =
     let rabin = c .before .before .before .before .judge-rabin in
     let translation = c .before .before .before .before .before .before .before .before .before .before .before .before .before .translate-table in
     let parity = rw (c .before .before .before .letters-of .ensures) at (c .judge-parity .ensures .0) in
-    (translation .ensures .0, (rabin .ensures .0, (parity, λ z. judges-agree _ _ _ _ _ (a .lead .now) (a .looped .now) _ _ (translation .ensures .1 .0 z) (rabin .ensures .0) parity)))
+    (translation .ensures .0, (rabin .ensures .0, (parity, λ z. answers-agree _ _ _ _ _ (a .lead .now) (a .looped .now) _ _ (translation .ensures .1 .0 z) (rabin .ensures .0) parity)))
 
 pub judge-both-spec : {M : Type 1} → statement M
 judge-both-spec =

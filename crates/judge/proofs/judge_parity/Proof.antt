@@ -37,40 +37,40 @@ module _ (c : tie.Else1) where
   abbrev s : tie.Start
   s = start (c .before)
 
-  taken : (parityFault (s .args .rows) (s .args .letters) (s .args .targets .now) (s .args .priorities .now) ≡ 0) × (wordFault (s .args .letters) (s .args .lead .now) (s .args .looped .now) ≡ 0)
-  taken = first-zero _ _ (sym (refusal (c .before)) ∙ c .if1 .left)
+  unrefused : (parityFault (s .args .rows) (s .args .letters) (s .args .targets .now) (s .args .priorities .now) ≡ 0) × (wordFault (s .args .letters) (s .args .lead .now) (s .args .looped .now) ≡ 0)
+  unrefused = first-zero _ _ (sym (refusal (c .before)) ∙ c .if1 .left)
 
   -- the run's answer is the judge's
   judged : (r : Judged) → answerOf r ≡ parityRun (s .args .rows) (s .args .letters) (s .args .targets .now) (s .args .priorities .now) (s .args .lead .now) (s .args .looped .now)
       → Promised (s .args .rows) (s .args .letters) (s .args .targets .now) (s .args .priorities .now) (s .args .lead .now) (s .args .looped .now) (answerOf r)
   judged r h =
-      promised (s .args .rows) (s .args .letters) (s .args .targets .now) (s .args .priorities .now) (s .args .lead .now) (s .args .looped .now) (rw (taken .0, taken .1) h)
+      promised (s .args .rows) (s .args .letters) (s .args .targets .now) (s .args .priorities .now) (s .args .lead .now) (s .args .looped .now) (rw (unrefused .0, unrefused .1) h)
 
 returns : tie.Need-returns
 returns c =
     let a = start (c .before) .args in
     promised (a .rows) (a .letters) (a .targets .now) (a .priorities .now) (a .lead .now) (a .looped .now) (rw (← refusal (c .before)) (refused-given _ _ (c .if1 .taken)))
 
-judge-few-requires : tie.Need-judge-few-requires
-judge-few-requires c κs = let one = c .before in (taken one .0, taken one .1, c .if2 .taken)
+judge-small-requires : tie.Need-judge-small-requires
+judge-small-requires c κs = let one = c .before in (unrefused one .0, unrefused one .1, c .if2 .taken)
 
 returns-2 : tie.Need-returns-2
-returns-2 c = judged (c .before .before) (c .judge-few .result) (c .judge-few .ensures)
+returns-2 c = judged (c .before .before) (c .judge-small .result) (c .judge-small .ensures)
 
-judge-some-requires : tie.Need-judge-some-requires
-judge-some-requires c κs = let one = c .before .before in (taken one .0, taken one .1, c .if3 .taken)
+judge-middle-requires : tie.Need-judge-middle-requires
+judge-middle-requires c κs = let one = c .before .before in (unrefused one .0, unrefused one .1, c .if3 .taken)
 
 returns-3 : tie.Need-returns-3
-returns-3 c = judged (c .before .before .before) (c .judge-some .result) (c .judge-some .ensures)
+returns-3 c = judged (c .before .before .before) (c .judge-middle .result) (c .judge-middle .ensures)
 
-judge-many-requires : tie.Need-judge-many-requires
-judge-many-requires c κs = taken (c .before .before)
+judge-large-requires : tie.Need-judge-large-requires
+judge-large-requires c κs = unrefused (c .before .before)
 
 returns-4 : tie.Need-returns-4
-returns-4 c = judged (c .before .before .before) (c .judge-many .result) (c .judge-many .ensures)
+returns-4 c = judged (c .before .before .before) (c .judge-large .result) (c .judge-large .ensures)
 
 pub judge-parity-spec : {M : Type 1} → statement M
 judge-parity-spec =
     tie.close
-    (tie.spec (λ c κs. search needs) (λ c κs. search needs) (λ c κs. search needs) (λ c κs. search needs) returns judge-few-requires returns-2
-    judge-some-requires returns-3 judge-many-requires returns-4)
+    (tie.spec (λ c κs. search needs) (λ c κs. search needs) (λ c κs. search needs) (λ c κs. search needs) returns judge-small-requires returns-2
+    judge-middle-requires returns-3 judge-large-requires returns-4)

@@ -11,8 +11,8 @@ use Rattle.rules.specs.Says.{RabinSays, RabinMeans}
 use Rattle.rules.specs.Tables.{tableOf, tableFault}
 use Rattle.rules.proofs.Filling.{zeros-at}
 use Rattle.rules.proofs.Meanings.{rabin-means}
-use Rattle.rules.proofs.Refusals.{taken-table, first-zero}
-use Rattle.tables.specs.Parts.{Taken}
+use Rattle.rules.proofs.Refusals.{table-facts, first-zero}
+use Rattle.tables.specs.Parts.{WellFormed}
 use Rattle.judge.proofs.Checks.{first-same, refused-given}
 use Rattle.judge_rabin.proofs.judge_rabin.Statement.{statement}
 use Rattle.judge_rabin.proofs.judge_rabin.Tie as tie
@@ -31,23 +31,23 @@ module _ (c : tie.After-first-fault) where
       c .first-fault .ensures ∙ first-same (c .before .before .before .check-table .ensures) (c .before .word-fault .ensures ∙ ap (λ (m : ℕ). wordFault m (start .args .lead .now) (start .args .looped .now)) (c .before .before .letters-of .ensures))
 
 -- nothing is refused
-taken : (c : tie.Else1) → let s = start (c .before) in Taken (s .args .table .now) × (wordFault (tableOf (s .args .table .now) .letters) (s .args .lead .now) (s .args .looped .now) ≡ 0)
-taken c = first-zero _ _ (sym (refusal (c .before)) ∙ c .if1 .left)
+unrefused : (c : tie.Else1) → let s = start (c .before) in WellFormed (s .args .table .now) × (wordFault (tableOf (s .args .table .now) .letters) (s .args .lead .now) (s .args .looped .now) ≡ 0)
+unrefused c = first-zero _ _ (sym (refusal (c .before)) ∙ c .if1 .left)
 
 returns : tie.Need-returns
 returns c = let a = start (c .before) .args in promised (a .table .now) (a .lead .now) (a .looped .now) (rw (← refusal (c .before)) (refused-given _ _ (c .if1 .taken)))
 
 judge-word-requires : tie.Need-judge-word-requires
 judge-word-requires c κs =
-    let t = taken (c .before .before .before) in
-    let n = taken-table _ (t .0) .sizes .most-states in
+    let t = unrefused (c .before .before .before) in
+    let n = table-facts _ (t .0) .sizes .most-states in
     (t .0, t .1, record { enough = n; none = zeros-at maxStates }, n, n)
 
 returns-2 : tie.Need-returns-2
 returns-2 c =
     let w = c .before .before .before in
     let e : tie.Else1 = w .before .before .before .before in
-    let t = taken e in
+    let t = unrefused e in
     let a = start (e .before) .args in
     promised (a .table .now) (a .lead .now) (a .looped .now) (rw (t .0, t .1) (w .judge-word .ensures))
 

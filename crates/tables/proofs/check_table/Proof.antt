@@ -11,9 +11,9 @@ use lib.ListN.{length}
 use Rattle.rules.specs.Basics.{firstOf, when}
 use Rattle.rules.specs.Limits.{headerSize}
 use Rattle.rules.specs.Refusals as Refusal
-use Rattle.rules.specs.Tables.{tableOf, sizesFault, tableLength}
+use Rattle.rules.specs.Tables.{tableOf, badSizes, tableLength}
 use Rattle.rules.specs.Says.{CheckSays}
-use Rattle.rules.proofs.Refusals.{TakenSizes, taken-sizes}
+use Rattle.rules.proofs.Refusals.{SizeFacts, size-facts}
 use Rattle.tables.proofs.Refused.{targets-part, marks-part, parts-match, header-short, sizes-bad, cells-short, cells-long, start-bad, cells-judged}
 use Rattle.tables.proofs.check_table.Statement.{statement}
 use Rattle.tables.proofs.check_table.Tie as tie
@@ -29,11 +29,11 @@ module _ (c : tie.Else2) where
   header : ltb (length bytes) headerSize ≡ false
   header = whole (c .before .before .before .before .before)
 
-  sizes : sizesFault (tableOf bytes .states) (tableOf bytes .letters) (tableOf bytes .pairs) ≡ false
-  sizes = sym (c .before .sizes-fault .ensures) ∙ c .if2 .left
+  sizes : badSizes (tableOf bytes .states) (tableOf bytes .letters) (tableOf bytes .pairs) ≡ false
+  sizes = sym (c .before .bad-sizes .ensures) ∙ c .if2 .left
 
-  sizes-taken : TakenSizes (tableOf bytes .states) (tableOf bytes .letters) (tableOf bytes .pairs)
-  sizes-taken = taken-sizes _ _ _ sizes
+  sizes-taken : SizeFacts (tableOf bytes .states) (tableOf bytes .letters) (tableOf bytes .pairs)
+  sizes-taken = size-facts _ _ _ sizes
 
 enough : (c : tie.Else3) → let bs = bytes (c .before) in ltb (length bs) (tableLength (tableOf bs .states) (tableOf bs .letters)) ≡ false
 enough c = le-ltb _ _ (c .if3 .left)
@@ -45,20 +45,20 @@ exact c =
     le-ltb _ _ l
 
 -- what both checks of the cells find decides the rest
-judged : (c : tie.After-marks-fault)
-    → CheckSays (bytes (c .before .before .before .before .before .before .before .before)) (firstOf (when (c .before .before .target-fault .result) Refusal.target) (when (c .marks-fault .result) Refusal.marks))
+judged : (c : tie.After-bad-marks)
+    → CheckSays (bytes (c .before .before .before .before .before .before .before .before)) (firstOf (when (c .before .before .bad-targets .result) Refusal.target) (when (c .bad-marks .result) Refusal.marks))
 judged c =
     let five = c .before .before .before .before in
     let four = five .before .before in
     let two = four .before .before in
-    rw (c .before .before .target-fault .ensures, c .marks-fault .ensures, targets-part (bytes two), marks-part (bytes two))
+    rw (c .before .before .bad-targets .ensures, c .bad-marks .ensures, targets-part (bytes two), marks-part (bytes two))
     (cells-judged (bytes two) (header two) (sizes two) (enough (four .before)) (exact four) (lt-leb _ _ (five .if5 .left)))
 
 returns : tie.Need-returns
 returns c = header-short _ (lt-ltb _ _ (c .if1 .taken))
 
 returns-2 : tie.Need-returns-2
-returns-2 c = sizes-bad _ (whole (c .before .before .before .before .before)) (sym (c .before .sizes-fault .ensures) ∙ c .if2 .taken)
+returns-2 c = sizes-bad _ (whole (c .before .before .before .before .before)) (sym (c .before .bad-sizes .ensures) ∙ c .if2 .taken)
 
 cast-cells : tie.Need-cast-cells
 cast-cells c = omega (arith, sizes-taken c)
@@ -87,8 +87,8 @@ returns-5 c =
     let two = four .before .before in
     start-bad _ (header two) (sizes two) (enough (four .before)) (exact four) (le-leb _ _ (c .if5 .taken))
 
-marks-fault-requires : tie.Need-marks-fault-requires
-marks-fault-requires c κs =
+bad-marks-requires : tie.Need-bad-marks-requires
+bad-marks-requires c κs =
     let three = c .before .before .before .before .before .before in
     let two = three .before in
     rw (targets-part (bytes two), marks-part (bytes two)) (parts-match (bytes two) (three .if3 .left), sizes-taken two .most-pairs)
@@ -107,5 +107,5 @@ check-table-spec =
     tie.close
     (tie.spec returns (λ c. search needs) (λ c. search needs) (λ c. search needs) (λ c κs. search needs) returns-2 cast-cells cast-cells-2 mul-cells
     mul-length add-length returns-3 returns-4 (λ c. search needs) returns-5 (λ c. search needs) (λ c. search needs) (λ c. search needs)
-    (λ c. search needs) (λ c κs. search needs) (λ c. search needs) (λ c. search needs) (λ c. search needs) marks-fault-requires returns-6 returns-7
+    (λ c. search needs) (λ c κs. search needs) (λ c. search needs) (λ c. search needs) (λ c. search needs) bad-marks-requires returns-6 returns-7
     returns-8)

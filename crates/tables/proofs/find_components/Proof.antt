@@ -9,8 +9,8 @@ use Rattle.rules.specs.Says.{over}
 use Rattle.rules.specs.Tables.{tableOf}
 use Rattle.rules.specs.Systems.{componentOf}
 use Rattle.rules.proofs.Arrays.{tabulate-same}
-use Rattle.rules.proofs.Refusals.{TakenTable, taken-table}
-use Rattle.tables.specs.Parts.{Taken, statesOf, systemIn, Listed}
+use Rattle.rules.proofs.Refusals.{TableFacts, table-facts}
+use Rattle.tables.specs.Parts.{WellFormed, statesOf, systemIn, Listed}
 use Rattle.tables.specs.Layouts.{TargetsLaid}
 use Rattle.tables.proofs.Refused.{targets-part}
 use Rattle.tables.proofs.Cells.{target-count}
@@ -25,22 +25,22 @@ module _ (c : tie.Else1) where
   abbrev bytes : List ℕ
   bytes = c .before .before .before .before .args .table .now
 
-  taken : Taken bytes
-  taken = sym (c .before .check-table .ensures) ∙ c .if1 .left
+  formed : WellFormed bytes
+  formed = sym (c .before .check-table .ensures) ∙ c .if1 .left
 
-  known : TakenTable bytes
-  known = taken-table bytes taken
+  known : TableFacts bytes
+  known = table-facts bytes formed
 
 returns : tie.Need-returns
 returns c = components-promised (components-refused _ _ _ (c .before .check-table .ensures) (c .if1 .taken))
 
 returns-2 : tie.Need-returns-2
-returns-2 c = components-promised (components-short _ (taken (c .before .before)) _ (c .if2 .taken))
+returns-2 c = components-promised (components-short _ (formed (c .before .before)) _ (c .if2 .taken))
 
 lay-targets-requires : tie.Need-lay-targets-requires
 lay-targets-requires c κs =
     let e : tie.Else1 = c .before .before .before .before .before in
-    rw (targets-part (bytes e)) (omega (arith, known e, target-count (bytes e) (taken e)))
+    rw (targets-part (bytes e)) (omega (arith, known e, target-count (bytes e) (formed e)))
 
 -- the targets are laid out
 module _ (c : tie.After-lay-targets) where
@@ -54,7 +54,7 @@ module _ (c : tie.After-lay-targets) where
   laid =
       let bs = bytes first in
       let room : tableOf bs .states * tableOf bs .letters ≤ length targets = omega (arith, c .lay-targets .kept .1 .0, known first) in
-      targets-laid bs (taken first) _ targets room (targets-written bs (taken first) _ _ targets (targets-part bs) (c .lay-targets .ensures))
+      targets-laid bs (formed first) _ targets room (targets-written bs (formed first) _ _ targets (targets-part bs) (c .lay-targets .ensures))
 
 find-homes-requires : tie.Need-find-homes-requires
 find-homes-requires c κs =
@@ -67,7 +67,7 @@ homes-listed : (c : tie.After-find-homes) → let bs = bytes (c .before .before 
 homes-listed c =
     let l = c .before .before .before .before in
     let e = first l in
-    laid-homes (tableOf (bytes e)) (is-table (bytes e) (taken e)) (targets l) (laid l) _ _ (omega (arith, c .find-homes .kept .1 .1 .1 .0, known e)) (c .find-homes .ensures)
+    laid-homes (tableOf (bytes e)) (is-table (bytes e) (formed e)) (targets l) (laid l) _ _ (omega (arith, c .find-homes .kept .1 .1 .1 .0, known e)) (c .find-homes .ensures)
 
 narrow-requires : tie.Need-narrow-requires
 narrow-requires c κs =
@@ -80,7 +80,7 @@ returns-3 c =
     let e : tie.Else1 = c .before .before .before .before .before .before .before .before .before .before .before .before .before .before .before .before in
     let h = homes-listed (c .before .before .before .before .before .before) in
     let same = tabulate-same _ (componentOf (systemIn (bytes e))) (statesOf (bytes e)) 0 (λ q l u. h .entry q (omega arith)) in
-    components-promised (components-found _ (taken e) _ _ (c .before .before .before .before .before .before .before .before .before .before .before .before .before .before .if2 .left) (c .before .before .narrow .ensures ∙ ap (λ (xs : List ℕ). over xs (c .before .before .before .before .before .before .before .before .before .before .before .before .before .before .before .before .before .before .before .before .args .out .now)) same))
+    components-promised (components-found _ (formed e) _ _ (c .before .before .before .before .before .before .before .before .before .before .before .before .before .before .if2 .left) (c .before .before .narrow .ensures ∙ ap (λ (xs : List ℕ). over xs (c .before .before .before .before .before .before .before .before .before .before .before .before .before .before .before .before .before .before .before .before .args .out .now)) same))
 
 pub find-components-spec : {M : Type 1} → statement M
 find-components-spec =

@@ -9,8 +9,8 @@ use lib.ListN.{length}
 use borrow.Author.Tests.{ltb-false}
 use Rattle.rules.specs.Tables.{tableOf}
 use Rattle.rules.proofs.Bools.{or-none}
-use Rattle.rules.proofs.Refusals.{TakenTable, taken-table}
-use Rattle.tables.specs.Parts.{Taken}
+use Rattle.rules.proofs.Refusals.{TableFacts, table-facts}
+use Rattle.tables.specs.Parts.{WellFormed}
 use Rattle.tables.proofs.Refused.{targets-part}
 use Rattle.tables.proofs.Cells.{target-count, mark-count}
 use Rattle.tables.proofs.Laying.{marks-rest, targets-written, marks-written}
@@ -23,11 +23,11 @@ module _ (c : tie.Else1) where
   abbrev bytes : List ℕ
   bytes = c .before .before .before .before .before .args .table .now
 
-  taken : Taken bytes
-  taken = sym (c .before .check-table .ensures) ∙ c .if1 .left
+  formed : WellFormed bytes
+  formed = sym (c .before .check-table .ensures) ∙ c .if1 .left
 
-  known : TakenTable bytes
-  known = taken-table bytes taken
+  known : TableFacts bytes
+  known = table-facts bytes formed
 
 room : (c : tie.Else2) → let t = tableOf (bytes (c .before .before .before)) in let a = c .before .before .before .before .before .before .before .before .args in
     (t .states * t .letters ≤ length (a .targets .now)) × (t .states * t .letters ≤ length (a .marks .now))
@@ -47,12 +47,12 @@ returns-2 : tie.Need-returns-2
 returns-2 c =
     let s = c .before .before .before .before .before .before .before .before .before .args in
     let e = c .refused-with2 .ensures in
-    rw (e .0, e .1, e .2, e .3) (lay-short (s .table .now) (taken (c .before .before .before .before)) (s .targets .now) (s .marks .now) (c .before .if2 .taken))
+    rw (e .0, e .1, e .2, e .3) (lay-short (s .table .now) (formed (c .before .before .before .before)) (s .targets .now) (s .marks .now) (c .before .if2 .taken))
 
 lay-targets-requires : tie.Need-lay-targets-requires
 lay-targets-requires c κs =
     let e : tie.Else1 = c .before .before .before .before .before in
-    rw (targets-part (bytes e), target-count (bytes e) (taken e)) (room (c .before .before) .0)
+    rw (targets-part (bytes e), target-count (bytes e) (formed e)) (room (c .before .before) .0)
 
 sub-lay-marks : tie.Need-sub-lay-marks
 sub-lay-marks c = omega (arith, known (c .before .before .before .before .before .before .before .before))
@@ -66,7 +66,7 @@ part-lay-marks-end c = omega (arith, known (c .before .before .before .before .b
 lay-marks-requires : tie.Need-lay-marks-requires
 lay-marks-requires c κs =
     let e : tie.Else1 = c .before .before .before .before .before .before .before .before .before .before in
-    (rw (marks-rest (bytes e) (taken e), mark-count (bytes e) (taken e)) (omega arith), room (c .before .before .before .before .before .before .before) .1)
+    (rw (marks-rest (bytes e) (formed e), mark-count (bytes e) (formed e)) (omega arith), room (c .before .before .before .before .before .before .before) .1)
 
 shared-slice-read-t10 : tie.Need-shared-slice-read-t10
 shared-slice-read-t10 c = omega (arith, known (c .before .before .before .before .before .before .before .before .before .before .before .before .before .before))
@@ -81,9 +81,9 @@ returns-3 : tie.Need-returns-3
 returns-3 c =
     let e : tie.Else1 = c .before .before .before .before .before .before .before .before .before .before .before .before .before .before .before in
     let s = c .before .before .before .before .before .before .before .before .before .before .before .before .before .before .before .before .before .before .before .before .args in
-    let ts = targets-written (bytes e) (taken e) _ _ _ (targets-part (bytes e)) (c .before .before .before .before .before .before .before .before .before .lay-targets .ensures) in
-    let ms = marks-written (bytes e) (taken e) _ _ _ (marks-rest (bytes e) (taken e)) (c .before .before .before .before .lay-marks .ensures) in
-    laid (bytes e) (taken e) (s .targets .now) (s .marks .now) _ _ (c .before .before .before .before .before .before .before .before .before .before .before .before .if2 .left) ts ms
+    let ts = targets-written (bytes e) (formed e) _ _ _ (targets-part (bytes e)) (c .before .before .before .before .before .before .before .before .before .lay-targets .ensures) in
+    let ms = marks-written (bytes e) (formed e) _ _ _ (marks-rest (bytes e) (formed e)) (c .before .before .before .before .lay-marks .ensures) in
+    laid (bytes e) (formed e) (s .targets .now) (s .marks .now) _ _ (c .before .before .before .before .before .before .before .before .before .before .before .before .if2 .left) ts ms
 
 pub lay-table-spec : {M : Type 1} → statement M
 lay-table-spec =

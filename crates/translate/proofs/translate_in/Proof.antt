@@ -7,7 +7,7 @@ use lib.ListN.{length, take}
 use lib.Seq.{length-take-le}
 use Rattle.rules.specs.Basics.{when}
 use Rattle.rules.specs.Tables.{tableOf, tableFault}
-use Rattle.rules.proofs.Refusals.{TakenArrays, taken-arrays, taken-table, first-zero, when-none}
+use Rattle.rules.proofs.Refusals.{ArrayFacts, array-facts, table-facts, first-zero, when-none}
 use Rattle.translate.specs.Cells.{entryKey, TableCodes}
 use Rattle.translate.proofs.Promises.{kept-few, kept-sources, translate-nothing, translate-explored, promised}
 use Rattle.translate.proofs.translate_in.Statement.{statement}
@@ -17,7 +17,7 @@ returns : tie.Need-returns
 returns c =
     promised (translate-nothing _ _ _ _ _ _ _ _ _ (c .before .before .before .before .before .before .letters-of .ensures) (c .before .before .before .before .before .are-short .ensures) (c .before .before .before .encode-table .ensures .refusal) (c .if1 .taken))
 
--- the table is taken and encoded, and the arrays are long enough
+-- the table is formed and encoded, and the arrays are long enough
 module _ (c : tie.Else1) where
   abbrev lent : tie.Start
   lent = c .before .before .before .before .before .before .before .before .before .before .before .before .before
@@ -33,8 +33,8 @@ module _ (c : tie.Else1) where
   same = c .before .before .before .before .before .before .letters-of .ensures
 
   enough : let a = lent .args in
-      TakenArrays (a .capacity) (c .before .before .before .before .before .before .letters-of .result) (length (a .targets .now)) (length (a .priorities .now)) (length (a .sources .now)) (length (a .records .now))
-  enough = taken-arrays _ _ _ _ _ _ (sym (c .before .before .before .before .before .are-short .ensures) ∙ when-none _ _ (none .1))
+      ArrayFacts (a .capacity) (c .before .before .before .before .before .before .letters-of .result) (length (a .targets .now)) (length (a .priorities .now)) (length (a .sources .now)) (length (a .records .now))
+  enough = array-facts _ _ _ _ _ _ (sym (c .before .before .before .before .before .are-short .ensures) ∙ when-none _ _ (none .1))
 
 leave-rows-requires : tie.Need-leave-rows-requires
 leave-rows-requires c κs =
@@ -42,7 +42,7 @@ leave-rows-requires c κs =
     let x = c .before .before .before .before .before .before .before .before .before .before .before .find-rows in
     let n = c .before .before .before .before .told .ensures .1 in
     let few = kept-few _ _ _ _ _ (lent e .args .sources .now) _ (none e .0) (same e) (enough e) (task e .0) (task e .2) (x .ensures) n in
-    (omega (arith, enough e, few, same e, taken-table _ (none e .0), x .kept), kept-sources _ _ _ _ _ (lent e .args .sources .now) _ (none e .0) (same e) (enough e) (task e .0) (task e .2) (x .ensures) n)
+    (omega (arith, enough e, few, same e, table-facts _ (none e .0), x .kept), kept-sources _ _ _ _ _ (lent e .args .sources .now) _ (none e .0) (same e) (enough e) (task e .0) (task e .2) (x .ensures) n)
 
 returns-2 : tie.Need-returns-2
 returns-2 c =

@@ -10,7 +10,7 @@ use Rattle.components.specs.Places.{at}
 use Rattle.components.specs.Searching.{doneNumber, numbersIn, startsIn, waitingIn}
 use Rattle.components.proofs.Searches.{parts-few, waiting-few}
 use Rattle.components.proofs.Stores.{part-at}
-use Rattle.components.proofs.Turns.{quiet-below, turn-settled}
+use Rattle.components.proofs.Turns.{quiet-below, turn-closed}
 use Rattle.components.proofs.paths.turn.Statement.{statement}
 use Rattle.components.proofs.paths.turn.Tie as tie
 
@@ -68,8 +68,8 @@ extend-requires c κs =
     let h = c .before .before .before .before .if1 .taken in
     (s .pre .0, (_, s .pre .2), h, few s .0, waits-is s h, omega (arith, last-is s, number-is s h, c .before .if2 .taken))
 
-settle-requires : tie.Need-settle-requires
-settle-requires c κs = let s = c .before .before .before .before .before .before .before in (last-below s, few s .3, few s .5, s .pre .1, λ i u. s .pre .2 .searched .places .state i u)
+name-component-requires : tie.Need-name-component-requires
+name-component-requires c κs = let s = c .before .before .before .before .before .before .before in (last-below s, few s .3, few s .5, s .pre .1, λ i u. s .pre .2 .searched .places .state i u)
 
 returns : tie.Need-returns
 returns c = c .before .before .extend .ensures _ (c .before .before .before .before .before .before .before .before .before .before .before .before .pre .2)
@@ -81,7 +81,7 @@ returns-2 : tie.Need-returns-2
 returns-2 c =
     let j : tie.Joined1 = c .before .before .before .before .before .before .before in
     let t = s j in
-    turn-settled _ _ _ _ _ _ _ _ _ (t .pre .0) (t .pre .2) (few t .0) (quiet j) _ (sym (last-is t)) (c .before .before .before .before .settle .ensures)
+    turn-closed _ _ _ _ _ _ _ _ _ (t .pre .0) (t .pre .2) (few t .0) (quiet j) _ (sym (last-is t)) (c .before .before .before .before .name-component .ensures)
 
 pub turn-spec : {M : Type 1} → statement M
 turn-spec =
@@ -94,5 +94,5 @@ turn-spec =
     (λ c. let s = c .before .before .before .before .before .before in omega (arith, waits-state s (c .before .if1 .taken), few s))
     (λ c. let s = c .before .before .before .before .before .before in omega (arith, waits-state s (c .before .if1 .taken), few s))
     (λ c. let s = c .before .before .before .before .before .before .before in omega (arith, waits-state s (c .before .before .if1 .taken), few s))
-    extend-requires (λ c. omega arith) returns (λ c. omega (arith, last-below (s c), few (s c))) settle-requires sub-t12 (λ c. omega arith)
+    extend-requires (λ c. omega arith) returns (λ c. omega (arith, last-below (s c), few (s c))) name-component-requires sub-t12 (λ c. omega arith)
     (λ c. omega arith) returns-2)

@@ -2,7 +2,7 @@
 use borrow.Author.Needs.{needs}
 use Prim.Native.Nat.{_%_, _<_}
 use native.Mathlib.Omega.{arith}
-use Rattle.records.specs.Words.{isMarked, places}
+use Rattle.records.specs.Packed.{isMarked, places}
 use Rattle.records.proofs.Packing.{moved-small, places-below, places-length}
 use Rattle.explore.specs.Cells.{span}
 use Rattle.explore.specs.Effects.{effectBy}
@@ -10,7 +10,7 @@ use Rattle.explore.proofs.effects.effect_by_pairs.Statement.{statement}
 use Rattle.explore.proofs.effects.effect_by_pairs.Tie as tie
 
 -- the word after the move is small
-small : (c : tie.After-moved) → c .moved .result .word < span
+small : (c : tie.After-moved) → c .moved .result .code < span
 small c =
     let s = c .before .args in
     rw (c .moved .ensures) (moved-small (isMarked (s .marks % 256)) (places (s .memory)) 6 (places-below 6 (s .memory)) (omega (arith, places-length 6 (s .memory))))

@@ -12,18 +12,18 @@ use Rattle.rules.specs.Basics.{pick, isEven}
 use Rattle.rules.specs.Judges.{paritySystem, priorityAt, parityGood, parityRun}
 use Rattle.rules.specs.Runs.{recurring}
 use Rattle.rules.specs.Systems.{System}
-use Rattle.rules.proofs.Refusals.{TakenParity, taken-parity, TakenWord, taken-word}
+use Rattle.rules.proofs.Refusals.{ParityFacts, parity-facts, WordFacts, word-facts}
 use Rattle.rules.proofs.Sets.{largest-is}
-use Rattle.judge.specs.Passes.{Noted, Underway}
+use Rattle.judge.specs.Passes.{SumsKept, Underway}
 use Rattle.judge.proofs.Pieces.{misses-within}
-use Rattle.judge.proofs.Passes.{misses-judged, underway-entry, underway-next, underway-noted, underway-state, underway-count, underway-early, underway-misses, round-earlier, round-judged, round-met}
+use Rattle.judge.proofs.Passes.{misses-judged, underway-entry, underway-next, underway-kept, underway-state, underway-count, underway-early, underway-misses, round-earlier, round-judged, round-sums}
 use Rattle.judge.proofs.parity.judge_word.Statement.{statement}
 use Rattle.judge.proofs.parity.judge_word.Tie as tie
 
 abbrev Inv-loop : tie.InvT-loop
 Inv-loop rows letters targets priorities lead looped begun₀ peaks₀ place₀ count₀ pass₀ first₀ begun peaks place count pass first =
     Underway (paritySystem rows letters targets) 0 lead looped place₀ pass place count first begun
-    × Noted (paritySystem rows letters targets) looped place₀ ltb (priorityAt letters priorities) pass peaks
+    × SumsKept (paritySystem rows letters targets) looped place₀ ltb (priorityAt letters priorities) pass peaks
     × (rows ≤ length peaks) × (length begun ≡ length begun₀) × (length peaks ≡ length peaks₀)
 
 abbrev μ-loop : tie.MeasureT-loop
@@ -35,11 +35,11 @@ module _ (s : tie.Start Inv-loop μ-loop) where
   abbrev system : System
   system = paritySystem (s .args .rows) (s .args .letters) (s .args .targets .now)
 
-  table : TakenParity (s .args .rows) (s .args .letters) (s .args .targets .now) (s .args .priorities .now)
-  table = taken-parity _ _ _ _ (s .pre .0)
+  table : ParityFacts (s .args .rows) (s .args .letters) (s .args .targets .now) (s .args .priorities .now)
+  table = parity-facts _ _ _ _ (s .pre .0)
 
-  word : TakenWord (s .args .letters) (s .args .lead .now) (s .args .looped .now)
-  word = taken-word _ _ _ (s .pre .1)
+  word : WordFacts (s .args .letters) (s .args .lead .now) (s .args .looped .now)
+  word = word-facts _ _ _ (s .pre .1)
 
 -- a word that is underway, as the loop is reached
 module _ (c : tie.At-loop Inv-loop μ-loop) where
@@ -82,7 +82,7 @@ decided c =
     let s = start (l .before) in
     let u = l .before .loop .inv .0 in
     let good = parityGood (s .args .letters) (s .args .priorities .now) in
-    let met = round-met u (l .loop-test .left) good ltb (priorityAt (s .args .letters) (s .args .priorities .now)) _ (c .peak-of .result) (fits l) (l .before .loop .inv .1) (c .peak-of .ensures) in
+    let met = round-sums u (l .loop-test .left) good ltb (priorityAt (s .args .letters) (s .args .priorities .now)) _ (c .peak-of .result) (fits l) (l .before .loop .inv .1) (c .peak-of .ensures) in
     round-judged u (l .loop-test .left) good ∙ ap (λ (z : ℕ). pick (isEven z) accepts rejects) (largest-is (priorityAt (s .args .letters) (s .args .priorities .now)) (recurring (system s) 0 (s .args .lead .now) (s .args .looped .now)) (c .peak-of .result) met)
 
 read-piece-requires : tie.Need-read-piece-requires Inv-loop μ-loop
@@ -157,7 +157,7 @@ loop-again c =
     let inv = turn .before .loop .inv in
     let read = c .before .before .before .read-piece2 .ensures in
     let on = c .before .if2 .left in
-    (underway-next (inv .0) (turn .loop-test .taken) _ _ (read .0 .leads on) refl, underway-noted (inv .0) (turn .loop-test .taken) ltb _ _ (turn .before .loop .peaks) (inv .2) (read .1 on) (inv .1), simp length-set (inv .2), simp length-set (inv .3), simp length-set (inv .4))
+    (underway-next (inv .0) (turn .loop-test .taken) _ _ (read .0 .leads on) refl, underway-kept (inv .0) (turn .loop-test .taken) ltb _ _ (turn .before .loop .peaks) (inv .2) (read .1 on) (inv .1), simp length-set (inv .2), simp length-set (inv .3), simp length-set (inv .4))
 
 cast-from : tie.Need-cast-from Inv-loop μ-loop
 cast-from c = omega (arith, between c, c .before .loop .inv .0 .few, table (start (c .before)) .most-rows)

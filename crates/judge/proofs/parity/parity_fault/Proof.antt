@@ -26,27 +26,27 @@ mul-cells c = omega (arith, limits c)
 returns-2 : tie.Need-returns-2
 returns-2 c = rw (parity-tests, c .before .if1 .left, c .if2 .taken)
 
-slice-aggregate-target-fault : tie.Need-slice-aggregate-target-fault
-slice-aggregate-target-fault c =
+slice-aggregate-bad-targets : tie.Need-slice-aggregate-bad-targets
+slice-aggregate-bad-targets c =
     let s = c .before .before .before .before .before .args in
     let e = or-none (ltb (length (s .targets .now)) (s .rows * s .letters)) _ (c .before .if2 .left) in
     sym (length-take-le _ _ (ltb-false _ _ (e .0)))
 
-cast-target-fault : tie.Need-cast-target-fault
-cast-target-fault c = omega (arith, limits (c .before .before))
+cast-bad-targets : tie.Need-cast-bad-targets
+cast-bad-targets c = omega (arith, limits (c .before .before))
 
 returns-3 : tie.Need-returns-3
 returns-3 c =
     let two = c .before .before .before in
-    rw (parity-tests, two .before .if1 .left, two .if2 .left, ← c .before .target-fault .ensures, c .if3 .taken)
+    rw (parity-tests, two .before .if1 .left, two .if2 .left, ← c .before .bad-targets .ensures, c .if3 .taken)
 
 returns-4 : tie.Need-returns-4
 returns-4 c =
     let two = c .before .before .before in
-    rw (parity-tests, two .before .if1 .left, two .if2 .left, ← c .before .target-fault .ensures, c .if3 .left)
+    rw (parity-tests, two .before .if1 .left, two .if2 .left, ← c .before .bad-targets .ensures, c .if3 .left)
 
 pub parity-fault-spec : {M : Type 1} → statement M
 parity-fault-spec =
     tie.close
-    (tie.spec (λ c. search needs) returns mul-cells returns-2 slice-aggregate-target-fault cast-target-fault (λ c κs. search needs) returns-3
+    (tie.spec (λ c. search needs) returns mul-cells returns-2 slice-aggregate-bad-targets cast-bad-targets (λ c κs. search needs) returns-3
     returns-4)

@@ -13,17 +13,17 @@ use Rattle.rules.specs.Judges.{paritySystem, priorityAt}
 use Rattle.rules.specs.Runs.{passFrom}
 use Rattle.rules.specs.Systems.{System, Path, here}
 use Rattle.rules.proofs.Arrays.{getD-any, cell-within}
-use Rattle.rules.proofs.Refusals.{TakenParity, taken-parity}
-use Rattle.judge.specs.Passes.{Met}
+use Rattle.rules.proofs.Refusals.{ParityFacts, parity-facts}
+use Rattle.judge.specs.Passes.{SumsUp}
 use Rattle.judge.proofs.Sums.{largest-joins}
-use Rattle.judge.proofs.Pieces.{letter-below, read-more, read-misses, met-letter, column-long, column-at}
+use Rattle.judge.proofs.Pieces.{letter-below, piece-more, read-misses, sums-letter, column-long, column-at}
 use Rattle.judge.proofs.parity.read_piece.Statement.{statement}
 use Rattle.judge.proofs.parity.read_piece.Tie as tie
 
 abbrev Inv-loop : tie.InvT-loop
 Inv-loop rows letters targets priorities piece from place₀ peak₀ i₀ place peak i =
     (i ≤ length piece) × (place < rows) × Path (paritySystem rows letters targets) from (take i piece) place
-    × Met ltb (priorityAt letters priorities) (passFrom (paritySystem rows letters targets) from (take i piece)) peak
+    × SumsUp ltb (priorityAt letters priorities) (passFrom (paritySystem rows letters targets) from (take i piece)) peak
 
 abbrev μ-loop : tie.MeasureT-loop
 μ-loop rows letters targets priorities piece from place₀ peak₀ i₀ place peak i = length piece - i
@@ -45,8 +45,8 @@ module _ (c : tie.In-loop Inv-loop μ-loop) where
   abbrev letter : ℕ
   letter = getD (s .args .piece .now) (c .before .loop .i) 0
 
-  table : TakenParity (s .args .rows) (s .args .letters) (s .args .targets .now) (s .args .priorities .now)
-  table = taken-parity _ _ _ _ (s .pre .0)
+  table : ParityFacts (s .args .rows) (s .args .letters) (s .args .targets .now) (s .args .priorities .now)
+  table = parity-facts _ _ _ _ (s .pre .0)
 
   letter-ok : letter < s .args .letters
   letter-ok = letter-below _ (s .args .piece .now) (s .pre .1) _ (c .loop-test .taken)
@@ -109,7 +109,7 @@ loop-again : tie.Need-loop-again Inv-loop μ-loop
 loop-again c =
     let t = c .before .before .before .before .before .before in
     let on = c .before .before .if1 .left in
-    (omega arith, on, subst (Path (system t) (s t .args .from) _) (goes t) (read-more (system t) _ _ _ _ (t .before .loop .inv .2) (t .loop-test .taken) (letter-ok t) (subst⁻¹ (λ (z : ℕ). z < s t .args .rows) (goes t) on)), λ k. ap (ltb k) (c .larger .ensures) ∙ met-letter (system t) _ _ _ _ (t .before .loop .inv .2) (t .loop-test .taken) ltb (priorityAt (s t .args .letters) (s t .args .priorities .now)) max largest-joins _ (t .before .loop .inv .3) k)
+    (omega arith, on, subst (Path (system t) (s t .args .from) _) (goes t) (piece-more (system t) _ _ _ _ (t .before .loop .inv .2) (t .loop-test .taken) (letter-ok t) (subst⁻¹ (λ (z : ℕ). z < s t .args .rows) (goes t) on)), λ k. ap (ltb k) (c .larger .ensures) ∙ sums-letter (system t) _ _ _ _ (t .before .loop .inv .2) (t .loop-test .taken) ltb (priorityAt (s t .args .letters) (s t .args .priorities .now)) max largest-joins _ (t .before .loop .inv .3) k)
 
 returns-2 : tie.Need-returns-2 Inv-loop μ-loop
 returns-2 c =

@@ -7,7 +7,7 @@ use lib.ListN.{length, take, drop}
 use Rattle.rules.specs.Limits.{headerSize}
 use Rattle.rules.specs.Systems.{cell}
 use Rattle.rules.specs.Tables.{tableOf}
-use Rattle.rules.proofs.Refusals.{TakenTable}
+use Rattle.rules.proofs.Refusals.{TableFacts}
 use Rattle.tables.specs.Parts.{statesOf}
 use Rattle.tables.proofs.Cells.{targetAt, target-byte}
 use Rattle.judge_rabin.proofs.Marks.{cell-placed}
@@ -16,7 +16,7 @@ use Rattle.judge_rabin.proofs.cells.target_of.Statement.{statement}
 use Rattle.judge_rabin.proofs.cells.target_of.Tie as tie
 
 -- the table, and the cell in it
-placed : (s : tie.Start) → let b = s .args .table .now in TakenTable b × (cell (tableOf b .letters) (s .args .state) (s .args .letter) < statesOf b * tableOf b .letters)
+placed : (s : tie.Start) → let b = s .args .table .now in TableFacts b × (cell (tableOf b .letters) (s .args .state) (s .args .letter) < statesOf b * tableOf b .letters)
 placed s = cell-placed _ _ _ (s .pre)
 
 targets-long : (s : tie.Start) → let b = s .args .table .now in length (take (length b - headerSize) (drop headerSize b)) ≡ length b - headerSize

@@ -15,12 +15,12 @@ use Rattle.rules.specs.Judges.{satisfies, rabinRun}
 use Rattle.rules.specs.Runs.{recurring}
 use Rattle.rules.specs.Systems.{System}
 use Rattle.rules.specs.Tables.{tableOf}
-use Rattle.rules.proofs.Refusals.{TakenTable, taken-table, TakenWord, taken-word}
+use Rattle.rules.proofs.Refusals.{TableFacts, table-facts, WordFacts, word-facts}
 use Rattle.tables.specs.Parts.{statesOf, systemIn}
-use Rattle.judge.specs.Passes.{MissesAfter, Noted, Underway}
+use Rattle.judge.specs.Passes.{MissesAfter, SumsKept, Underway}
 use Rattle.judge_rabin.specs.Marks.{prohibitedMarks, requiredMarks}
 use Rattle.judge.proofs.Pieces.{misses-within}
-use Rattle.judge.proofs.Passes.{misses-judged, underway-entry, underway-next, underway-noted, underway-state, underway-count, underway-early, underway-misses, round-earlier, round-judged, round-met}
+use Rattle.judge.proofs.Passes.{misses-judged, underway-entry, underway-next, underway-kept, underway-state, underway-count, underway-early, underway-misses, round-earlier, round-judged, round-sums}
 use Rattle.judge_rabin.proofs.Marks.{union-satisfies}
 use Rattle.judge_rabin.proofs.run.judge_word.Statement.{statement}
 use Rattle.judge_rabin.proofs.run.judge_word.Tie as tie
@@ -28,8 +28,8 @@ use Rattle.judge_rabin.proofs.run.judge_word.Tie as tie
 abbrev Inv-loop : tie.InvT-loop
 Inv-loop table lead looped begun₀ prohibited₀ required₀ n place₀ count₀ pass₀ first₀ begun prohibited required place count pass first =
     Underway (systemIn table) (tableOf table .start) lead looped place₀ pass place count first begun
-    × Noted (systemIn table) looped place₀ bit (prohibitedMarks (tableOf table)) pass prohibited
-    × Noted (systemIn table) looped place₀ bit (requiredMarks (tableOf table)) pass required
+    × SumsKept (systemIn table) looped place₀ bit (prohibitedMarks (tableOf table)) pass prohibited
+    × SumsKept (systemIn table) looped place₀ bit (requiredMarks (tableOf table)) pass required
     × (statesOf table ≤ length prohibited) × (statesOf table ≤ length required)
     × (length begun ≡ length begun₀) × (length prohibited ≡ length prohibited₀) × (length required ≡ length required₀)
 
@@ -42,11 +42,11 @@ module _ (s : tie.Start Inv-loop μ-loop) where
   abbrev system : System
   system = systemIn (s .args .table .now)
 
-  table : TakenTable (s .args .table .now)
-  table = taken-table _ (s .pre .0)
+  table : TableFacts (s .args .table .now)
+  table = table-facts _ (s .pre .0)
 
-  word : TakenWord (system .letters) (s .args .lead .now) (s .args .looped .now)
-  word = taken-word _ _ _ (s .pre .1)
+  word : WordFacts (system .letters) (s .args .lead .now) (s .args .looped .now)
+  word = word-facts _ _ _ (s .pre .1)
 
 -- a word that is underway, as the loop is reached
 module _ (c : tie.At-loop Inv-loop μ-loop) where
@@ -93,7 +93,7 @@ decided c =
     let s = start (l .before) in
     let t = tableOf (s .args .table .now) in
     let inv = l .before .loop .inv in
-    let met = round-met (inv .0) (l .loop-test .left) (satisfies t) bit in
+    let met = round-sums (inv .0) (l .loop-test .left) (satisfies t) bit in
     let barred = met (prohibitedMarks t) (l .before .loop .prohibited) (c .before .before .before .union-of .result) (fits l .0) (inv .1) (c .before .before .before .union-of .ensures) in
     let asked = met (requiredMarks t) (l .before .loop .required) (c .union-of2 .result) (fits l .1) (inv .2) (c .union-of2 .ensures) in
     round-judged (inv .0) (l .loop-test .left) (satisfies t) ∙ ap (λ (z : Bool). pick z accepts rejects) (union-satisfies (s .args .table .now) (s .pre .0) (recurring (system s) (t .start) (s .args .lead .now) (s .args .looped .now)) (c .before .before .before .union-of .result) (c .union-of2 .result) (c .union-of2 .ok) barred asked)
@@ -183,7 +183,7 @@ loop-again c =
     let inv = turn .before .loop .inv in
     let read = c .before .before .before .read-piece2 .ensures in
     let on = rw (states-are (turn .before)) at (c .before .if2 .left) in
-    let noted = underway-noted (inv .0) (turn .loop-test .taken) bit in
+    let noted = underway-kept (inv .0) (turn .loop-test .taken) bit in
     (underway-next (inv .0) (turn .loop-test .taken) _ _ (read .0 .leads on) refl, noted _ _ (turn .before .loop .prohibited) (inv .3) (read .1 on) (inv .1), noted _ _ (turn .before .loop .required) (inv .4) (read .2 on) (inv .2), simp length-set (inv .3), simp length-set (inv .4), simp length-set (inv .5), simp length-set (inv .6), simp length-set (inv .7))
 
 cast-from : tie.Need-cast-from Inv-loop μ-loop

@@ -11,21 +11,21 @@ use Rattle.rules.specs.Runs.{Taken, taken, passFrom}
 use Rattle.rules.specs.Systems.{System, Path, here}
 use Rattle.rules.specs.Tables.{tableOf}
 use Rattle.rules.proofs.Bits.{bit-none}
-use Rattle.rules.proofs.Refusals.{taken-table}
+use Rattle.rules.proofs.Refusals.{table-facts}
 use Rattle.rules.proofs.Runs.{path-below}
 use Rattle.tables.specs.Parts.{systemIn}
-use Rattle.judge.specs.Passes.{Met, MissesAfter}
+use Rattle.judge.specs.Passes.{SumsUp, MissesAfter}
 use Rattle.judge_rabin.specs.Marks.{prohibitedMarks, requiredMarks}
 use Rattle.judge.proofs.Sums.{union-joins}
-use Rattle.judge.proofs.Pieces.{letter-below, read-more, read-misses, met-letter}
+use Rattle.judge.proofs.Pieces.{letter-below, piece-more, read-misses, sums-letter}
 use Rattle.judge_rabin.proofs.run.read_piece.Statement.{statement}
 use Rattle.judge_rabin.proofs.run.read_piece.Tie as tie
 
 abbrev Inv-loop : tie.InvT-loop
 Inv-loop table piece from n place₀ met₀ i₀ place met i =
     (i ≤ length piece) × Path (systemIn table) from (take i piece) place × (met < 2 ^ 16)
-    × Met bit (prohibitedMarks (tableOf table)) (passFrom (systemIn table) from (take i piece)) (met % 256)
-    × Met bit (requiredMarks (tableOf table)) (passFrom (systemIn table) from (take i piece)) (met / 256)
+    × SumsUp bit (prohibitedMarks (tableOf table)) (passFrom (systemIn table) from (take i piece)) (met % 256)
+    × SumsUp bit (requiredMarks (tableOf table)) (passFrom (systemIn table) from (take i piece)) (met / 256)
 
 abbrev μ-loop : tie.MeasureT-loop
 μ-loop table piece from n place₀ met₀ i₀ place met i = length piece - i
@@ -56,9 +56,9 @@ module _ (c : tie.In-loop Inv-loop μ-loop) where
   letter-known : getD piece i 0 < s .letters
   letter-known = letter-below (s .letters) piece (start .pre .1) i (c .loop-test .taken)
 
-  meets : (g : Taken → ℕ) (u v : ℕ) → v ≡ g (taken place (getD piece i 0)) → Met bit g (passFrom s (start .args .from) (take i piece)) u
-      → Met bit g (passFrom s (start .args .from) (take (i + 1) piece)) (bitOr u v)
-  meets g u v e h = rw e (met-letter s (start .args .from) piece i place path (c .loop-test .taken) bit g bitOr union-joins u h)
+  meets : (g : Taken → ℕ) (u v : ℕ) → v ≡ g (taken place (getD piece i 0)) → SumsUp bit g (passFrom s (start .args .from) (take i piece)) u
+      → SumsUp bit g (passFrom s (start .args .from) (take (i + 1) piece)) (bitOr u v)
+  meets g u v e h = rw e (sums-letter s (start .args .from) piece i place path (c .loop-test .taken) bit g bitOr union-joins u h)
 
   -- the target leads on, or the transition is missing
   module _ (x : ℕ) (e : x ≡ s .go place (getD piece i 0)) where
@@ -66,7 +66,7 @@ module _ (c : tie.In-loop Inv-loop μ-loop) where
     misses h = read-misses s (start .args .from) piece i place path (c .loop-test .taken) letter-known (rw e at h)
 
     leads : x < s .states → Path s (start .args .from) (take (i + 1) piece) x
-    leads h = rw e (read-more s (start .args .from) piece i place path (c .loop-test .taken) letter-known (rw e at h))
+    leads h = rw e (piece-more s (start .args .from) piece i place path (c .loop-test .taken) letter-known (rw e at h))
 
 returns : tie.Need-returns Inv-loop μ-loop
 returns c =
@@ -79,12 +79,12 @@ loop-again c =
     let x = c .before .before .before .before in
     let inv = c .before .before .before .before .before .loop .inv in
     let w = c .before .before .before .before .before .loop .met in
-    let v = c .marks-of .result in
-    let marks = c .marks-of .ensures in
+    let v = c .marks-at .result in
+    let marks = c .marks-at .ensures in
     let n = c .before .before .before .before .before .before .states-of .ensures in (
       omega arith,
       leads x _ (c .before .before .target-of .ensures) (omega (arith, n, c .before .if1 .left)),
-      or-lt 16 w v (inv .2) (omega (arith, c .marks-of .ok)),
+      or-lt 16 w v (inv .2) (omega (arith, c .marks-at .ok)),
       rw (or-mod w v 8) (meets x (prohibitedMarks (tableOf (start x .args .table .now))) (w % 256) (v % 256) (marks .0) (inv .3)),
       rw (or-shr w v 8) (meets x (requiredMarks (tableOf (start x .args .table .now))) (w / 256) (v / 256) (marks .1) (inv .4)),
     )
@@ -101,7 +101,7 @@ read-piece-spec =
     tie.close
     (tie.spec Inv-loop μ-loop (λ c κs. c .before .before .pre .0) (λ c. (omega arith, here, omega arith, bit-none, bit-none))
     (λ c. c .before .loop-test .taken)
-    (λ c. omega (arith, letter-known (c .before), taken-table _ (c .before .before .before .before .before .before .pre .0)))
+    (λ c. omega (arith, letter-known (c .before), table-facts _ (c .before .before .before .before .before .before .pre .0)))
     (λ c κs. (c .before .before .before .before .before .before .pre .0, place-below (c .before), letter-known (c .before)))
     returns
     (λ c κs. (c .before .before .before .before .before .before .before .before .pre .0, place-below (c .before .before .before), letter-known (c .before .before .before)))

@@ -6,7 +6,7 @@ use Rattle.records.proofs.PairNumber.is_in.Statement.{statement}
 use Rattle.records.proofs.PairNumber.is_in.Tie as tie
 
 returns : tie.Need-returns
-returns c = marked-masked (c .args .pairs) (c .args .self .0) (omega arith)
+returns c = marked-masked (c .args .mask) (c .args .self .0) (omega arith)
 
 pub is-in-spec : {M : Type 1} → statement M
 is-in-spec = tie.close (tie.spec (λ c. search needs) (λ c. search needs) (λ c. search needs) returns)

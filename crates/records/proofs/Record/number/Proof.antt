@@ -10,14 +10,14 @@ use lib.Dec.{lit<}
 use lib.ListN.{drop, drop-of-length-le}
 use Rattle.rules.specs.Basics.{keep}
 use Rattle.rules.specs.Records.{decimalFrom, decimal}
-use Rattle.records.specs.Words.{isPair, places, pairsIn}
+use Rattle.records.specs.Packed.{isPair, places, pairsIn}
 use Rattle.records.proofs.Packing.{pair-below, digit-turn, digit-below}
 use Rattle.records.proofs.Record.number.Statement.{statement}
 use Rattle.records.proofs.Record.number.Tie as tie
 
 abbrev Inv-loop : tie.InvT-loop
 Inv-loop self number₀ p₀ number p =
-    (10 * suc number ≤ 10 ^ p) × (decimalFrom number (keep isPair (drop p (0 ∷ places (self .word)))) ≡ decimal (pairsIn (self .word)))
+    (10 * suc number ≤ 10 ^ p) × (decimalFrom number (keep isPair (drop p (0 ∷ places (self .code)))) ≡ decimal (pairsIn (self .code)))
 
 abbrev μ-loop : tie.MeasureT-loop
 μ-loop self number₀ p₀ number p = 7 - p
@@ -28,12 +28,12 @@ loop-holds c = (omega arith, refl)
 with-digit-requires : tie.Need-with-digit-requires Inv-loop μ-loop
 with-digit-requires c κs =
     let p : ℕ = c .before .before .loop .p in
-    let w : ℕ = c .before .before .before .args .self .word in
+    let w : ℕ = c .before .before .before .args .self .code in
     (omega (arith, pow-le-pow-right {n = 10} (lit< tt) {i = p} {j = 6} (omega arith)), omega (arith, c .pair-at .ensures, pair-below 6 w p))
 
 loop-again : tie.Need-loop-again Inv-loop μ-loop
 loop-again c =
-    let w : ℕ = c .before .before .before .before .args .self .word in
+    let w : ℕ = c .before .before .before .before .args .self .code in
     let turn = c .before .before .before .loop in
     let p : ℕ = turn .p in
     let pair = c .before .pair-at in
@@ -44,7 +44,7 @@ loop-again c =
 returns : tie.Need-returns Inv-loop μ-loop
 returns c =
     let turn = c .before .loop in
-    let o : List ℕ = places (c .before .before .args .self .word) in
+    let o : List ℕ = places (c .before .before .args .self .code) in
     sym (ap (λ (z : List ℕ). decimalFrom (turn .number) (keep isPair z)) (drop-of-length-le (0 ∷ o) {i = turn .p} (omega arith))) ∙ turn .inv .1
 
 pub number-spec : {M : Type 1} → statement M

@@ -22,7 +22,7 @@ slice-write-marks c = omega (arith, c .before .before .before .before .loop .inv
 loop-again : tie.Need-loop-again Inv-loop μ-loop
 loop-again c =
     let i = c .before .before .before .before .loop in
-    (omega arith, filled-more _ _ _ (i .c) _ (omega arith) (rw (add-one (2 * i .c)) at (c .marks-word .ensures)) (i .inv .1))
+    (omega arith, filled-more _ _ _ (i .c) _ (omega arith) (rw (add-one (2 * i .c)) at (c .mask-of .ensures)) (i .inv .1))
 
 returns : tie.Need-returns Inv-loop μ-loop
 returns c =

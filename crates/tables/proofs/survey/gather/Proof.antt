@@ -43,8 +43,8 @@ cast-home c = let r = c .before .before .before .before .before .before .before 
 slice-read-sets : tie.Need-slice-read-sets Inv-loop μ-loop
 slice-read-sets c = omega (arith, home-below (c .before .before), c .before .before .before .before .before .before .before .before .pre .1)
 
-met-pairs-requires : tie.Need-met-pairs-requires Inv-loop μ-loop
-met-pairs-requires c κs = (c .before .before .before .before .before .before .before .before .pre .0, c .before .before .loop-test .taken)
+pairs-of-state-requires : tie.Need-pairs-of-state-requires Inv-loop μ-loop
+pairs-of-state-requires c κs = (c .before .before .before .before .before .before .before .before .pre .0, c .before .before .loop-test .taken)
 
 slice-write-sets : tie.Need-slice-write-sets Inv-loop μ-loop
 slice-write-sets c = omega (arith, home-below (c .before .before .before), c .before .before .before .before .before .before .before .before .before .pre .1)
@@ -58,7 +58,7 @@ loop-again c =
     let s = start u in
     let a = s .args in
     let i = u .before .loop in
-    let r = c .met-pairs in
+    let r = c .pairs-of-state in
     let more = gathered-more (paritySystem (a .n) (a .m) (a .targets .now)) (requiredIn (a .m) (a .marks .now)) pairBits (a .homes .now) (i .sets) (i .q) (r .result) in
     (omega arith, simp length-set (i .inv .1), more (s .pre .0 .homes) (u .loop-test .taken) (omega (arith, s .pre .1)) (r .ensures) (omega arith) (i .inv .2))
 
@@ -70,5 +70,5 @@ returns c =
 pub gather-spec : {M : Type 1} → statement M
 gather-spec =
     tie.close
-    (tie.spec Inv-loop μ-loop loop-holds mul-home shared-slice-read-home cast-home slice-read-sets met-pairs-requires slice-write-sets add-q
+    (tie.spec Inv-loop μ-loop loop-holds mul-home shared-slice-read-home cast-home slice-read-sets pairs-of-state-requires slice-write-sets add-q
     (λ c. search needs) loop-again (λ c. c .before .loop .inv .1) returns)

@@ -10,7 +10,7 @@ use Rattle.rules.specs.Systems.{System}
 use Rattle.rules.proofs.Arrays.{tabulate-same}
 use Rattle.rules.proofs.Filling.{zeros-at}
 use Rattle.tables.specs.Layouts.{requiredIn, pairBits}
-use Rattle.tables.proofs.Surveying.{component-below, gathered-none, gathered-met}
+use Rattle.tables.proofs.Surveying.{component-below, gathered-none, gathered-all}
 use Rattle.tables.proofs.survey.write_counted.Statement.{statement}
 use Rattle.tables.proofs.survey.write_counted.Tie as tie
 
@@ -33,7 +33,7 @@ returns : tie.Need-returns
 returns c =
     let s = c .before .before .before .before .before .before .before .before .before .before .before .before in
     let g = c .before .before .before .before .before .before .gather in
-    let met = gathered-met (system s) (requiredIn (s .args .m) (s .args .marks .now)) pairBits (s .args .homes .now) (g .last .1 .1 .1 .1 .1 .0) (s .pre .0 .homes) (g .ensures) in
+    let met = gathered-all (system s) (requiredIn (s .args .m) (s .args .marks .now)) pairBits (s .args .homes .now) (g .last .1 .1 .1 .1 .1 .0) (s .pre .0 .homes) (g .ensures) in
     let same = tabulate-same _ _ (s .args .n) 0 (λ q l u. met q (omega arith)) in
     c .before .before .spread .ensures ∙ ap (λ (xs : List ℕ). over xs (s .args .out .now)) same
 

@@ -23,7 +23,7 @@ module _ (c : tie.After-rising Inv-loop μ-loop) where
   abbrev q : ℕ
   q = c .before .before .before .loop .q
 
-  small : (c .rising .result .word < span) × (q < 64)
+  small : (c .rising .result .code < span) × (q < 64)
   small =
       let s = c .before .before .before .before .before .before in
       let l = c .before .before .loop-test .taken in

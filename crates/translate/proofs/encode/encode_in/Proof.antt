@@ -8,9 +8,9 @@ use Rattle.rules.specs.Basics.{firstOf}
 use Rattle.rules.specs.Limits.{maxStates, maxLetters}
 use Rattle.rules.specs.Systems.{componentOf}
 use Rattle.rules.specs.Tables.{Table, tableOf, tableFault, systemOf}
-use Rattle.rules.proofs.Refusals.{taken-table}
+use Rattle.rules.proofs.Refusals.{table-facts}
 use Rattle.tables.specs.Layouts.{IsTable, countedPairs}
-use Rattle.tables.specs.Parts.{Taken, Listed}
+use Rattle.tables.specs.Parts.{WellFormed, Listed}
 use Rattle.tables.proofs.Laying.{is-table}
 use Rattle.translate.proofs.CellCodes.{lay-fault, LaidTable, laid-table, laid-fit, surveyed, first-key, cells-room, codes-written}
 use Rattle.translate.proofs.encode.encode_in.Statement.{statement}
@@ -38,7 +38,7 @@ returns c =
     let n = c .refused-with .ensures in
     record { refusal = n ∙ first-some _ _ (refusal l) (c .before .if1 .taken); task = λ z. absurd (c .before .if1 .taken (sym n ∙ z)) }
 
--- the table is taken
+-- the table is formed
 module _ (c : tie.Else1) where
   abbrev lay : tie.After-lay-table
   lay = c .before .before .before .before .before .before
@@ -46,7 +46,7 @@ module _ (c : tie.Else1) where
   abbrev t : Table
   t = tableOf (bs lay)
 
-  is-taken : Taken (bs lay)
+  is-taken : WellFormed (bs lay)
   is-taken = sym (refusal lay) ∙ c .if1 .left
 
   good : IsTable t
@@ -77,7 +77,7 @@ write-codes-requires c κs =
     (cells-room (good x) (laid x) (v .0) (v .1), omega (arith, laid x .states, laid x .start-state, good x .start-state), laid-fit (good x) (laid x) _ (start (lay x) .pre .2 (is-taken x)))
 
 mul-used : tie.Need-mul-t35
-mul-used c = let x = c .before .before .before .before .before .before .before .before .before .before .before .before .before .before .before .before .before in omega (arith, laid-fit (good x) (laid x) (maxStates * maxLetters) (taken-table _ (is-taken x) .sizes .most-cells))
+mul-used c = let x = c .before .before .before .before .before .before .before .before .before .before .before .before .before .before .before .before .before in omega (arith, laid-fit (good x) (laid x) (maxStates * maxLetters) (table-facts _ (is-taken x) .sizes .most-cells))
 
 returns-3 : tie.Need-returns-3
 returns-3 c =

@@ -1,4 +1,4 @@
--- `judge_rabin::cells::marks_of` meets its contract: behind the targets stand two bytes for each cell.
+-- `judge_rabin::cells::marks_at` meets its contract: behind the targets stand two bytes for each cell.
 use mathlib.Core.Path.{_≡_}
 use Prim.Native.Nat.{_+_, _*_, _<_}
 use native.Mathlib.Omega.{arith}
@@ -6,15 +6,15 @@ use borrow.Author.Needs.{needs}
 use Rattle.rules.specs.Limits.{headerSize}
 use Rattle.rules.specs.Systems.{cell}
 use Rattle.rules.specs.Tables.{tableOf}
-use Rattle.rules.proofs.Refusals.{TakenTable}
+use Rattle.rules.proofs.Refusals.{TableFacts}
 use Rattle.tables.specs.Parts.{statesOf}
 use Rattle.tables.proofs.Cells.{prohibitedAt, prohibited-byte, requiredAt, required-byte}
 use Rattle.judge_rabin.proofs.Marks.{cell-placed}
-use Rattle.judge_rabin.proofs.cells.marks_of.Statement.{statement}
-use Rattle.judge_rabin.proofs.cells.marks_of.Tie as tie
+use Rattle.judge_rabin.proofs.cells.marks_at.Statement.{statement}
+use Rattle.judge_rabin.proofs.cells.marks_at.Tie as tie
 
 -- the table, and the cell in it
-placed : (s : tie.Start) → let b = s .args .table .now in TakenTable b × (cell (tableOf b .letters) (s .args .state) (s .args .letter) < statesOf b * tableOf b .letters)
+placed : (s : tie.Start) → let b = s .args .table .now in TableFacts b × (cell (tableOf b .letters) (s .args .state) (s .args .letter) < statesOf b * tableOf b .letters)
 placed s = cell-placed _ _ _ (s .pre)
 
 returns : tie.Need-returns
@@ -26,10 +26,10 @@ returns c =
     let p : prohibitedAt b (s .args .state) (s .args .letter) ≡ at = omega arith in
     let r : requiredAt b (s .args .state) (s .args .letter) ≡ at + 1 = omega arith in
     rw (prohibited-byte b (s .pre .0) _ _ (s .pre .1) (s .pre .2), required-byte b (s .pre .0) _ _ (s .pre .1) (s .pre .2), p, r)
-    (omega (arith, c .marks-word .ensures, low), omega (arith, c .marks-word .ensures, low))
+    (omega (arith, c .mask-of .ensures, low), omega (arith, c .mask-of .ensures, low))
 
-pub marks-of-spec : {M : Type 1} → statement M
-marks-of-spec =
+pub marks-at-spec : {M : Type 1} → statement M
+marks-at-spec =
     tie.close
     (tie.spec (λ c. omega (arith, placed (c .before .before))) (λ c. omega (arith, placed (c .before .before)))
     (λ c. omega (arith, placed (c .before .before .before))) (λ c. omega (arith, placed (c .before .before .before)))

@@ -4,10 +4,10 @@
 --     isMarked set i       pair i is in the set: bit i - 1 is set; 0 is no pair
 --     isPair i             i is the number of a pair
 --     marksIn p r          the marks whose prohibited pairs are the set p and whose required pairs are the set r
---     packed o             the word whose places hold o, the first pair lowest
---     placesOf n w         the first n places of a word
---     places w             the places of a record's word
---     pairsIn w            the ordering that a record's word holds: its places that are used
+--     packed o             the code whose places hold o, the first pair lowest
+--     placesOf n w         the first n places of a code
+--     places w             the places of a record's code
+--     pairsIn w            the ordering that a record's code holds: its places that are used
 use mathlib.Core.Bool.{Bool, not, _&&_}
 use mathlib.Core.List.{List, [], _∷_}
 use Prim.Native.Nat.{ℕ, zero, suc, _+_, _-_, _*_, _/_, _%_}

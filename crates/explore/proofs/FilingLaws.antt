@@ -1,7 +1,7 @@
 -- A key is looked up and, where it is absent and there is room, its row is filed.
 --     number-most, number-found, number-absent     the number of a key among keys of which none stands twice
 --     rows-old, rows-new              how many rows there are when a key was found or added
---     settled-found, settled-full, settled-added     the three outcomes
+--     filed-found, filed-full, filed-added     the three outcomes
 --     linked-more                     the index with the key that was added
 use mathlib.Core.Path.{_≡_, refl, sym, _∙_}
 use mathlib.Core.List.{List}
@@ -14,7 +14,7 @@ use borrow.Author.Tests.{eqb-true, eqb-false, eq-eqb, ne-eqb, ltb-true, ltb-fals
 use Rattle.rules.proofs.Bools.{by}
 use Rattle.rules.proofs.Exploration.{place-found, place-least, place-most}
 use Rattle.explore.specs.Index.{slotOf, Linked, Apart, numberAmong, KeyIndexed}
-use Rattle.explore.specs.Filing.{Filed, rowsAfter, Settles}
+use Rattle.explore.specs.Filing.{Filed, rowsAfter, Files}
 use Rattle.explore.proofs.Chains.{indexed-more}
 use Rattle.rules.proofs.Filling.{beyond-none, beyond-set}
 
@@ -71,8 +71,8 @@ module _ (c key n : ℕ) (keys : List ℕ) (f : Filed c n keys) where
   key-places : n ≤ length keys
   key-places = omega (arith, f .few, f .key-room)
 
-  pub settled-found : (i : ℕ) → i < n → getD keys i 0 ≡ key → Settles c key n keys keys i
-  settled-found i l e =
+  pub filed-found : (i : ℕ) → i < n → getD keys i 0 ≡ key → Files c key n keys keys i
+  filed-found i l e =
       let old = ne-eqb i n (λ z. omega arith) in
       record {
         number = number-found n key keys key-places (f .apart) i l e;
@@ -81,8 +81,8 @@ module _ (c key n : ℕ) (keys : List ℕ) (f : Filed c n keys) where
         key-rest = beyond-none c keys;
       }
 
-  pub settled-full : c ≤ n → Absent-key → Settles c key n keys keys n
-  settled-full l absent =
+  pub filed-full : c ≤ n → Absent-key → Files c key n keys keys n
+  filed-full l absent =
       let new = eq-eqb n n refl in
       record {
         number = number-absent n key keys key-places absent;
@@ -95,8 +95,8 @@ module _ (c key n : ℕ) (keys : List ℕ) (f : Filed c n keys) where
     lk : n < length keys
     lk = omega (arith, f .key-room)
 
-    pub settled-added : Absent-key → Settles c key n keys (set keys n key) n
-    settled-added absent =
+    pub filed-added : Absent-key → Files c key n keys (set keys n key) n
+    filed-added absent =
         let new = eq-eqb n n refl in
         record {
           number = number-absent n key keys key-places absent;

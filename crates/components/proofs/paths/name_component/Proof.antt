@@ -1,4 +1,4 @@
--- `components::paths::settle` meets its contract. The invariant: the states at the places from `from` up to i have their component.
+-- `components::paths::name_component` meets its contract. The invariant: the states at the places from `from` up to i have their component.
 use Prim.Native.Nat.{ℕ, _+_, _*_, _-_, _<_, _≤_}
 use mathlib.Core.Path.{_≡_, refl, sym, ap, _∙_}
 use native.Mathlib.Omega.{arith}
@@ -6,14 +6,14 @@ use native.Mathlib.Nat.{le-antisymm}
 use mathlib.Core.List.{List}
 use lib.ListN.{length, length-set}
 use Rattle.components.specs.Places.{at}
-use Rattle.components.specs.Searching.{stackIn, Settled}
+use Rattle.components.specs.Searching.{stackIn, Named}
 use Rattle.components.proofs.Stores.{part-at, part-length, part-behind}
-use Rattle.components.proofs.Loops.{settled-none, settled-more}
-use Rattle.components.proofs.paths.settle.Statement.{statement}
-use Rattle.components.proofs.paths.settle.Tie as tie
+use Rattle.components.proofs.Loops.{named-none, named-more}
+use Rattle.components.proofs.paths.name_component.Statement.{statement}
+use Rattle.components.proofs.paths.name_component.Tie as tie
 
 abbrev Inv-loop : tie.InvT-loop
-Inv-loop n from to work₀ outs₀ label i₀ work outs i = (from ≤ i) × (i ≤ to) × (length work ≡ length work₀) × (length outs ≡ length outs₀) × Settled n label from i work₀ work outs₀ outs
+Inv-loop n from to work₀ outs₀ label i₀ work outs i = (from ≤ i) × (i ≤ to) × (length work ≡ length work₀) × (length outs ≡ length outs₀) × Named n label from i work₀ work outs₀ outs
 
 abbrev μ-loop : tie.MeasureT-loop
 μ-loop n from to work₀ outs₀ label i₀ work outs i = to - i
@@ -45,22 +45,22 @@ smallest-requires c κs =
     (s .pre .0, rw (half (s .args .n)) (omega (arith, s .pre .1, part-length (s .args .n) (s .args .n) (s .args .work .now) (omega (arith, s .pre .2)))))
 
 loop-holds : tie.Need-loop-holds Inv-loop μ-loop
-loop-holds c = (omega arith, omega (arith, c .before .before .before .before .before .pre .0), refl, refl, settled-none _ _ _ _ _)
+loop-holds c = (omega arith, omega (arith, c .before .before .before .before .before .pre .0), refl, refl, named-none _ _ _ _ _)
 
 loop-again : tie.Need-loop-again Inv-loop μ-loop
 loop-again c =
     let u : tie.In-loop Inv-loop μ-loop = c .before in
     let v = u .before .loop .inv in
     let l = state u in
-    (omega arith, omega arith, simp length-set (v .2), simp length-set (v .3), settled-more _ _ _ _ _ _ _ _ _ (v .4) (v .0) (is u) l (omega (arith, v .2, s u .pre .2)) (omega (arith, v .3, s u .pre .3)))
+    (omega arith, omega arith, simp length-set (v .2), simp length-set (v .3), named-more _ _ _ _ _ _ _ _ _ (v .4) (v .0) (is u) l (omega (arith, v .2, s u .pre .2)) (omega (arith, v .3, s u .pre .3)))
 
 returns : tie.Need-returns Inv-loop μ-loop
 returns c =
     let v = c .before .loop .inv in
-    record { label = c .before .before .smallest .result; smallest = rw (half (c .before .before .before .before .before .before .before .args .n)) at (c .before .before .smallest .ensures); settled = rw (le-antisymm (v .1) (c .loop-test .left)) at (v .4) }
+    record { label = c .before .before .smallest .result; smallest = rw (half (c .before .before .before .before .before .before .before .args .n)) at (c .before .before .smallest .ensures); named = rw (le-antisymm (v .1) (c .loop-test .left)) at (v .4) }
 
-pub settle-spec : {M : Type 1} → statement M
-settle-spec =
+pub name-component-spec : {M : Type 1} → statement M
+name-component-spec =
     tie.close
     (tie.spec Inv-loop μ-loop (λ c. omega arith) (λ c. omega arith) (λ c. omega arith) (λ c. omega arith) (λ c. omega arith) smallest-requires loop-holds
     (λ c. omega arith) (λ c. omega arith) (λ c. omega arith) (λ c. omega (arith, state (c .before)))

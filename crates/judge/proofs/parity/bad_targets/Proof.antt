@@ -1,4 +1,4 @@
--- `judge::parity::target_fault` meets its contract. The invariant: what was found so far, or is still to be found from cell c on, is what is to be found.
+-- `judge::parity::bad_targets` meets its contract. The invariant: what was found so far, or is still to be found from cell c on, is what is to be found.
 use mathlib.Core.Path.{_≡_, refl, _∙_}
 use mathlib.Core.Bool.{_||_}
 use Prim.Native.Nat.{_-_, _≤_}
@@ -6,13 +6,13 @@ use native.Mathlib.Omega.{arith}
 use borrow.Author.Needs.{needs}
 use lib.ListN.{length, drop}
 use Rattle.rules.specs.Limits.{noRow}
-use Rattle.rules.specs.Tables.{targetFault}
+use Rattle.rules.specs.Tables.{badTargets}
 use Rattle.rules.proofs.Sets.{any-turn, any-end}
-use Rattle.judge.proofs.parity.target_fault.Statement.{statement}
-use Rattle.judge.proofs.parity.target_fault.Tie as tie
+use Rattle.judge.proofs.parity.bad_targets.Statement.{statement}
+use Rattle.judge.proofs.parity.bad_targets.Tie as tie
 
 abbrev Inv-loop : tie.InvT-loop
-Inv-loop targets rows bad₀ c₀ bad c = (c ≤ length targets) × (bad || targetFault rows noRow (drop c targets) ≡ targetFault rows noRow targets)
+Inv-loop targets rows bad₀ c₀ bad c = (c ≤ length targets) × (bad || badTargets rows noRow (drop c targets) ≡ badTargets rows noRow targets)
 
 abbrev μ-loop : tie.MeasureT-loop
 μ-loop targets rows bad₀ c₀ bad c = length targets - c
@@ -28,7 +28,7 @@ loop-again c =
 returns : tie.Need-returns Inv-loop μ-loop
 returns c = any-end _ _ _ _ (c .loop-test .left) (c .before .loop .inv .1)
 
-pub target-fault-spec : {M : Type 1} → statement M
-target-fault-spec =
+pub bad-targets-spec : {M : Type 1} → statement M
+bad-targets-spec =
     tie.close
     (tie.spec Inv-loop μ-loop loop-holds (λ c. search needs) (λ c. omega arith) (λ c. omega arith) (λ c. omega arith) loop-again returns)

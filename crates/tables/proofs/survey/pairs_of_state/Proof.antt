@@ -1,4 +1,4 @@
--- `tables::survey::met_pairs` meets its contract. The invariant: what the letters below a make count is found.
+-- `tables::survey::pairs_of_state` meets its contract. The invariant: what the letters below a make count is found.
 use borrow.Author.Needs.{needs}
 use mathlib.Core.Path.{refl, _∙_}
 use Prim.Native.Nat.{ℕ, _+_, _-_, _*_, _<_, _≤_}
@@ -9,12 +9,12 @@ use Rattle.rules.specs.Limits.{noRow}
 use Rattle.rules.proofs.Arrays.{getD-any, cell-within, row-within}
 use Rattle.rules.proofs.Bits.{bit-none}
 use Rattle.tables.specs.Layouts.{requiredIn}
-use Rattle.tables.proofs.Surveying.{home-inside, MetBelow, met-more}
-use Rattle.tables.proofs.survey.met_pairs.Statement.{statement}
-use Rattle.tables.proofs.survey.met_pairs.Tie as tie
+use Rattle.tables.proofs.Surveying.{home-inside, CountedBelow, counted-more}
+use Rattle.tables.proofs.survey.pairs_of_state.Statement.{statement}
+use Rattle.tables.proofs.survey.pairs_of_state.Tie as tie
 
 abbrev Inv-loop : tie.InvT-loop
-Inv-loop n m targets marks homes q first home met₀ a₀ met a = (a ≤ m) × MetBelow (paritySystem n m targets) (requiredIn m marks) q a met
+Inv-loop n m targets marks homes q first home met₀ a₀ met a = (a ≤ m) × CountedBelow (paritySystem n m targets) (requiredIn m marks) q a met
 
 abbrev μ-loop : tie.MeasureT-loop
 μ-loop n m targets marks homes q first home met₀ a₀ met a = m - a
@@ -66,15 +66,15 @@ loop-again c =
     let same = getD-any ts (place u) 0 noRow (omega (arith, here u, s .pre .0 .target-room)) in
     let stays = rw same at (c .before .before .is-home .ensures) in
     let inside = stays ∙ home-inside (paritySystem (s .args .n) (s .args .m) ts) (s .args .homes .now) (s .pre .0 .homes) (s .args .q) (i .a) (s .pre .1) in
-    (omega arith, rw (c .kept .ensures, inside) (met-more (paritySystem (s .args .n) (s .args .m) ts) (requiredIn (s .args .m) (s .args .marks .now)) (s .args .q) (i .a) (i .met) _ (i .inv .1) (λ j. refl)))
+    (omega arith, rw (c .kept .ensures, inside) (counted-more (paritySystem (s .args .n) (s .args .m) ts) (requiredIn (s .args .m) (s .args .marks .now)) (s .args .q) (i .a) (i .met) _ (i .inv .1) (λ j. refl)))
 
 returns : tie.Need-returns Inv-loop μ-loop
 returns c =
     let i = c .before .loop .inv in
     rw (le-antisymm (i .0) (c .loop-test .left)) at (i .1)
 
-pub met-pairs-spec : {M : Type 1} → statement M
-met-pairs-spec =
+pub pairs-of-state-spec : {M : Type 1} → statement M
+pairs-of-state-spec =
     tie.close
     (tie.spec Inv-loop μ-loop mul-first (λ c. search needs) shared-slice-read-home (λ c. (omega arith, bit-none)) add-is-home mul-is-home
     shared-slice-read-is-home is-home-requires add-kept mul-kept shared-slice-read-kept (λ c κs. search needs) (λ c. search needs) (λ c. search needs)

@@ -1,4 +1,4 @@
--- `tables::check::target_fault` meets its contract. The invariant: what was found so far, or is still to be found from cell c on, is what is to be found.
+-- `tables::check::bad_targets` meets its contract. The invariant: what was found so far, or is still to be found from cell c on, is what is to be found.
 use mathlib.Core.Path.{_≡_, refl, _∙_}
 use mathlib.Core.Bool.{_||_}
 use Prim.Native.Nat.{_-_, _≤_}
@@ -6,13 +6,13 @@ use native.Mathlib.Omega.{arith}
 use borrow.Author.Needs.{needs}
 use lib.ListN.{length, drop}
 use Rattle.rules.specs.Limits.{noState}
-use Rattle.rules.specs.Tables.{targetFault}
+use Rattle.rules.specs.Tables.{badTargets}
 use Rattle.rules.proofs.Sets.{any-turn, any-end}
-use Rattle.tables.proofs.check.target_fault.Statement.{statement}
-use Rattle.tables.proofs.check.target_fault.Tie as tie
+use Rattle.tables.proofs.check.bad_targets.Statement.{statement}
+use Rattle.tables.proofs.check.bad_targets.Tie as tie
 
 abbrev Inv-loop : tie.InvT-loop
-Inv-loop targets n bad₀ c₀ bad c = (c ≤ length targets) × (bad || targetFault n noState (drop c targets) ≡ targetFault n noState targets)
+Inv-loop targets n bad₀ c₀ bad c = (c ≤ length targets) × (bad || badTargets n noState (drop c targets) ≡ badTargets n noState targets)
 
 abbrev μ-loop : tie.MeasureT-loop
 μ-loop targets n bad₀ c₀ bad c = length targets - c
@@ -27,5 +27,5 @@ loop-again c =
 returns : tie.Need-returns Inv-loop μ-loop
 returns c = any-end _ _ _ _ (c .loop-test .left) (c .before .loop .inv .1)
 
-pub target-fault-spec : {M : Type 1} → statement M
-target-fault-spec = tie.close (tie.spec Inv-loop μ-loop loop-holds (λ c. omega arith) (λ c. omega arith) (λ c. omega arith) loop-again returns)
+pub bad-targets-spec : {M : Type 1} → statement M
+bad-targets-spec = tie.close (tie.spec Inv-loop μ-loop loop-holds (λ c. omega arith) (λ c. omega arith) (λ c. omega arith) loop-again returns)
