@@ -76,7 +76,7 @@ enum {
                                neither below N nor 65,535 */
 };
 
-/* The words of an answer; the numbers are our own. */
+/* The kinds of an answer; the numbers are our own. */
 enum {
     DUCKBULLION_ACCEPTS = 0, /* value 0 */
     DUCKBULLION_REJECTS = 1, /* value 0 */

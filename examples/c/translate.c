@@ -46,10 +46,10 @@ int main(void)
     duckbullion_answer rabin = duckbullion_judge_rabin(table, sizeof table, lead, 0, looped, sizeof looped);
     duckbullion_answer parity =
         duckbullion_judge_parity(made.rows, LETTERS, targets, CELLS, priorities, CELLS, lead, 0, looped, sizeof looped);
-    if (rabin.word != DUCKBULLION_ACCEPTS)
-        return fail("the Rabin table accepts the loop 0 1", (unsigned)rabin.word);
-    if (parity.word != DUCKBULLION_ACCEPTS)
-        return fail("the parity table accepts the loop 0 1", (unsigned)parity.word);
+    if (rabin.kind != DUCKBULLION_ACCEPTS)
+        return fail("the Rabin table accepts the loop 0 1", (unsigned)rabin.kind);
+    if (parity.kind != DUCKBULLION_ACCEPTS)
+        return fail("the parity table accepts the loop 0 1", (unsigned)parity.kind);
     printf("both accept the loop 0 1\n");
     return 0;
 }

@@ -48,7 +48,7 @@ pub struct ParityTable {
 /// A judge's answer as the C interface hands it over.
 #[repr(C)]
 struct Answer {
-    word: u32,
+    kind: u32,
     value: u32,
 }
 
@@ -430,7 +430,7 @@ pub fn list_table(
     }
 }
 
-/// Reads a judge's answer: word 0 accepts, 1 rejects, 2 stops, 3 refused.
+/// Reads a judge's answer: kind 0 accepts, 1 rejects, 2 stops, 3 refused.
 fn judged(answer: Answer) -> Judged {
     match answer.kind {
         0 => Judged::Accepts,

@@ -14,7 +14,7 @@ use lib.ListN.{getD}
 use Rattle.rules.specs.Systems.{cell}
 use Rattle.rules.specs.Records.{asTheyStood, moved, priority}
 use Rattle.rules.specs.Rows.{Step, Plan}
-use Rattle.records.specs.Packed.{isMarked, marksIn as marksOf, packed, places}
+use Rattle.records.specs.Packed.{isMarked, marksBy, packed, places}
 use Rattle.explore.specs.declared.Rule.{Rule}
 use Rattle.explore.specs.declared.Rule.the-variants.{Pairs}
 use Rattle.explore.specs.declared.Task.{Task}
@@ -22,7 +22,7 @@ use Rattle.explore.specs.Cells.{span, sourceIn, memoryIn, marksIn, stepI
 
 unfoldable pub effectBy : Rule → ℕ → ℕ → ℕ
 effectBy Pairs order marks =
-    span * priority (marksOf (marks % 256) (marks / 256)) (places order) + packed (moved asTheyStood (isMarked (marks % 256)) (places order))
+    span * priority (marksBy (marks % 256) (marks / 256)) (places order) + packed (moved asTheyStood (isMarked (marks % 256)) (places order))
 
 pub record IsEffect (rule : Rule) (order marks e : ℕ) : Type 0 where
   pub is : e ≡ effectBy rule order marks

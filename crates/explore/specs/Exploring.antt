@@ -19,9 +19,9 @@
 --                                  rows of each are left open, and only what is behind them is as it was; after Unfit all is as it was
 --     ExploreSays t cells c (lent .. an the) (lent x exploration: answer) and the arrays
 use mathlib.Core.Path.{_≡_}
-use mathlib.Core.Bool.{Bool, false, _&&_, _||_}
+use mathlib.Core.Bool.{Bool, false, _||_}
 use mathlib.Core.List.{List}
-use Prim.Native.Nat.{ℕ, suc, _+_, _-_, _*_, _/_, _<_, _≤_}
+use Prim.Native.Nat.{ℕ, suc, _-_, _*_, _/_, _<_, _≤_}
 use lib.Dec.{eqb, ltb, leb}
 use lib.ListN.{length, getD, set, take}
 use Rattle.rules.specs.Basics.{pick, any}

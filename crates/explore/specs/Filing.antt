@@ -4,7 +4,7 @@
 --     Files c key n .. r         a prime marks an array's contents at exit: r is the key's number, and it has been filed if it was absent and there was room
 use mathlib.Core.Path.{_≡_}
 use mathlib.Core.List.{List}
-use Prim.Native.Nat.{ℕ, suc, _<_, _≤_}
+use Prim.Native.Nat.{ℕ, suc, _≤_}
 use lib.Dec.{eqb}
 use lib.ListN.{length, set}
 use Rattle.rules.specs.Basics.{pick}

@@ -3,7 +3,7 @@
 --     base                 one more than the largest number that a place can hold
 --     isMarked set i       pair i is in the set: bit i - 1 is set; 0 is no pair
 --     isPair i             i is the number of a pair
---     marksIn p r          the marks whose prohibited pairs are the set p and whose required pairs are the set r
+--     marksBy p r          the marks whose prohibited pairs are the set p and whose required pairs are the set r
 --     packed o             the code whose places hold o, the first pair lowest
 --     placesOf n w         the first n places of a code
 --     places w             the places of a record's code
@@ -28,8 +28,8 @@ isPair i = not (eqb i 0)
 abbrev pub isMarked : ℕ → ℕ → Bool
 isMarked set i = isPair i && bit (i - 1) set
 
-abbrev pub marksIn : ℕ → ℕ → Marks
-marksIn p r = record { prohibited = isMarked p; required = isMarked r }
+abbrev pub marksBy : ℕ → ℕ → Marks
+marksBy p r = record { prohibited = isMarked p; required = isMarked r }
 
 abbrev pub packed : List ℕ → ℕ
 packed [] = 0

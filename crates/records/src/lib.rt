@@ -8,7 +8,7 @@ ghost use Prim.Native.Nat.{suc, _≤_, _<_, _*_, _+_, _/_, _^_};
 ghost use lib.ListN.{length, getD};
 ghost use Rattle.rules.specs.Basics.{pick, keep, tabulate};
 ghost use Rattle.rules.specs.Records.{asTheyStood, moved, priority, decimal};
-ghost use Rattle.records.specs.Packed.{limit, base, isPair, isMarked, marksIn, packed, places, pairsIn};
+ghost use Rattle.records.specs.Packed.{limit, base, isPair, isMarked, marksBy, packed, places, pairsIn};
 
 // The number of a pair, from 1; 0 is no pair.
 pub struct PairNumber(pub u8);
@@ -65,7 +65,7 @@ impl Record {
     // The priority of an inside transition with these marks, by the record before the move: position by position, the last pair with
     // either mark decides.
     pub fn priority(self, prohibited: u8, required: u8) -> u8
-        ensures { λ r. ⌜ r ≡ priority (marksIn prohibited required) (places (self .code)) ⌝ }
+        ensures { λ r. ⌜ r ≡ priority (marksBy prohibited required) (places (self .code)) ⌝ }
     {
         let mut best = 1;
         let mut p = 1;

@@ -1,6 +1,6 @@
 -- A table laid out in two arrays, one entry for each cell, and what is surveyed of such arrays. A prime marks an array's contents at exit.
 --     wideTarget x           a target as 16 bits: 65,535 where the transition is missing
---     targetIn t c, marksIn t c     the target of cell c as 16 bits; its marks as one word, the required byte above the prohibited byte
+--     targetIn t c, maskIn t c     the target of cell c as 16 bits; its marks as one word, the required byte above the prohibited byte
 --     targetCells t, markCells t    the same for each cell
 --     TargetsLaid t ts, MarksLaid t ms     the array holds the targets or the marks of t, by state and letter
 --     IsTable t              the sizes of t are in range, its start is a state, and no marks have a bit above its pairs
@@ -32,14 +32,14 @@ wideTarget x = pick (eqb x noState) noRow x
 abbrev pub targetIn : Table → ℕ → ℕ
 targetIn t c = wideTarget (getD (t .targets) c 0)
 
-abbrev pub marksIn : Table → ℕ → ℕ
-marksIn t c = getD (t .marks) (suc (2 * c)) 0 * 256 + getD (t .marks) (2 * c) 0
+abbrev pub maskIn : Table → ℕ → ℕ
+maskIn t c = getD (t .marks) (suc (2 * c)) 0 * 256 + getD (t .marks) (2 * c) 0
 
 abbrev pub targetCells : Table → List ℕ
 targetCells t = tabulate (t .states * t .letters) 0 (targetIn t)
 
 abbrev pub markCells : Table → List ℕ
-markCells t = tabulate (t .states * t .letters) 0 (marksIn t)
+markCells t = tabulate (t .states * t .letters) 0 (maskIn t)
 
 pub record TargetsLaid (t : Table) (ts : List ℕ) : Type 0 where
   pub enough : t .states * t .letters ≤ length ts

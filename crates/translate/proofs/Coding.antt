@@ -27,7 +27,7 @@ use Rattle.rules.specs.Says.{areShort}
 use Rattle.rules.proofs.Refusals.{TableFacts, table-facts}
 use Rattle.rules.proofs.Sets.{fails-at}
 use Rattle.rules.proofs.Steps.{step-missing, step-inside, step-crossing}
-use Rattle.records.specs.Packed.{packed, places, isMarked, marksIn}
+use Rattle.records.specs.Packed.{packed, places, isMarked, marksBy}
 use Rattle.records.proofs.Packing.{moved-packed, priority-packed}
 use Rattle.tables.specs.Parts.{WellFormed}
 use Rattle.translate.specs.Keys.{rowKey, keyRow, IsRow, IsKey}
@@ -114,7 +114,7 @@ module _ (bs : List ℕ) (formed : WellFormed bs) (cells : List ℕ) (codes : Ta
     marks-high = omega (arith, cut-small q (prohibits t q a))
 
     abbrev both : ℕ → ℕ → List ℕ → ℕ
-    both x y o = Key.span * priority (marksIn x y) o + packed (moved asTheyStood (isMarked x) o)
+    both x y o = Key.span * priority (marksBy x y) o + packed (moved asTheyStood (isMarked x) o)
 
     effect-is : e ≡ Key.span * priority (marksOf t q a) (r .memory) + packed (moved asTheyStood (prohibits t q a) (r .memory))
     unfolding effectBy
@@ -122,7 +122,7 @@ module _ (bs : List ℕ) (formed : WellFormed bs) (cells : List ℕ) (codes : Ta
         ap (λ (x : ℕ). effectBy (taskOf t .rule) x (P + 256 * Q)) memory-is
         ∙ ap (λ (x : ℕ). both x ((P + 256 * Q) / 256) (places (packed (r .memory)))) marks-low
         ∙ ap (λ (x : ℕ). both P x (places (packed (r .memory)))) marks-high
-        ∙ ap (λ (x : ℕ). Key.span * x + packed (moved asTheyStood (isMarked P) (places (packed (r .memory))))) (priority-packed (r .memory) (good .few) (row-pairs t few r good) (marksIn P Q) refl refl ∙ priority-same (marksIn P Q) (marksOf t q a) (r .memory) (cut-marked (prohibits t q a)) (cut-marked (requires t q a)))
+        ∙ ap (λ (x : ℕ). Key.span * x + packed (moved asTheyStood (isMarked P) (places (packed (r .memory))))) (priority-packed (r .memory) (good .few) (row-pairs t few r good) (marksBy P Q) refl refl ∙ priority-same (marksBy P Q) (marksOf t q a) (r .memory) (cut-marked (prohibits t q a)) (cut-marked (requires t q a)))
         ∙ ap (λ (x : ℕ). Key.span * priority (marksOf t q a) (r .memory) + x) (moved-packed (r .memory) (good .few) (row-pairs t few r good) (isMarked P) refl ∙ ap packed (moved-same asTheyStood (isMarked P) (prohibits t q a) (r .memory) (cut-marked (prohibits t q a))))
 
     -- the step of the key, from its code and the effect

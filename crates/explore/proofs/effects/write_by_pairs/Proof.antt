@@ -1,6 +1,5 @@
 -- `explore::effects::write_by_pairs` meets its contract. The invariant: the effects of the first a cells are written.
 use borrow.Author.Needs.{needs}
-use mathlib.Core.Path.{_≡_}
 use Prim.Native.Nat.{_+_, _-_}
 use native.Mathlib.Omega.{arith}
 use lib.ListN.{getD}

@@ -6,15 +6,15 @@ use native.Mathlib.Numerals.{add-one}
 use native.Mathlib.Omega.{arith}
 use lib.ListN.{drop, drop-of-length-le}
 use Rattle.rules.specs.Records.{Marks, priorityFrom, priority}
-use Rattle.records.specs.Packed.{marksIn, places}
+use Rattle.records.specs.Packed.{marksBy, places}
 use Rattle.records.proofs.Packing.{decided-turn}
 use Rattle.records.proofs.Record.priority.Statement.{statement}
 use Rattle.records.proofs.Record.priority.Tie as tie
 
 abbrev Inv-loop : tie.InvT-loop
 Inv-loop self prohibited required best₀ p₀ best p =
-    priorityFrom p (marksIn prohibited required) (drop p (0 ∷ places (self .code))) best
-    ≡ priority (marksIn prohibited required) (places (self .code))
+    priorityFrom p (marksBy prohibited required) (drop p (0 ∷ places (self .code))) best
+    ≡ priority (marksBy prohibited required) (places (self .code))
 
 abbrev μ-loop : tie.MeasureT-loop
 μ-loop self prohibited required best₀ p₀ best p = 7 - p
@@ -23,7 +23,7 @@ loop-again : tie.Need-loop-again Inv-loop μ-loop
 loop-again c =
     let s = c .before .before .before .before .before .before .args in
     let turn = c .before .before .before .before .before .loop in
-    let m : Marks = marksIn (s .prohibited) (s .required) in
+    let m : Marks = marksBy (s .prohibited) (s .required) in
     let o : List ℕ = places (s .self .code) in
     let pair = c .before .before .before .pair-at in
     let i : ℕ = pair .result .0 in
@@ -34,7 +34,7 @@ returns : tie.Need-returns Inv-loop μ-loop
 returns c =
     let s = c .before .before .args in
     let turn = c .before .loop in
-    sym (ap (λ (z : List ℕ). priorityFrom (turn .p) (marksIn (s .prohibited) (s .required)) z (turn .best)) (drop-of-length-le (0 ∷ places (s .self .code)) {i = turn .p} (omega arith)))
+    sym (ap (λ (z : List ℕ). priorityFrom (turn .p) (marksBy (s .prohibited) (s .required)) z (turn .best)) (drop-of-length-le (0 ∷ places (s .self .code)) {i = turn .p} (omega arith)))
     ∙ turn .inv
 
 pub priority-spec : {M : Type 1} → statement M
