@@ -61,7 +61,7 @@ enum {
  *   of a looped word    the table's (1 to 6 for a Rabin table, 11 for a parity table), then 10, then 9
  */
 enum {
-    DUCKBULLION_TAKEN = 0,  /* no refusal */
+    DUCKBULLION_OK = 0,     /* no refusal */
     DUCKBULLION_SHORT = 1,  /* fewer than 4 bytes, or than the sizes demand */
     DUCKBULLION_SIZES = 2,  /* n, m or k out of range */
     DUCKBULLION_LONG = 3,   /* bytes left over */
@@ -106,10 +106,10 @@ typedef struct duckbullion_rest {
     size_t length;
 } duckbullion_rest;
 
-/* The table's refusal, 1 to 6, or 0 where the table is taken. */
+/* The table's refusal, 1 to 6, or 0 where the table is well formed. */
 uint8_t duckbullion_check_table(const uint8_t *table, size_t table_length);
 
-/* The table's letters m: its second byte, taken or not, and 0 where there is no second byte. */
+/* The table's letters m: its second byte, well formed or not, and 0 where there is no second byte. */
 uint8_t duckbullion_letters_of(const uint8_t *table, size_t table_length);
 
 /*

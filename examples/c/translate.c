@@ -26,13 +26,13 @@ int main(void)
     uint32_t records[CAPACITY];
 
     uint8_t refused = duckbullion_check_table(table, sizeof table);
-    if (refused != DUCKBULLION_TAKEN)
+    if (refused != DUCKBULLION_OK)
         return fail("the table is refused", refused);
 
     duckbullion_translation made =
         duckbullion_translate_table(table, sizeof table, CAPACITY, targets, CELLS, priorities, CELLS,
                                     sources, CAPACITY, records, CAPACITY);
-    if (made.number != DUCKBULLION_TAKEN)
+    if (made.number != DUCKBULLION_OK)
         return fail("the translation is refused", made.number);
     if (made.rows != 4)
         return fail("T has 4 rows", (unsigned)made.rows);
