@@ -18,7 +18,7 @@
  *   - Proved, for all arguments: its result, and what each array holds afterwards, as said here.
  *   - By the language, which has no heap and no static variables: a call allocates no memory, has no state and keeps no
  *     pointer. Calls that write different arrays may run at the same time.
- *   - Measured only, with room added: a call takes less than 96 KiB of stack. A thread's stack was filled with a
+ *   - Measured only, with room added: a call takes less than 64 KiB of stack. A thread's stack was filled with a
  *     pattern, and it was read off how much of that was gone (docs/DECISIONS.md, "The stack of a call").
  */
 #ifndef DUCKBULLION_H
