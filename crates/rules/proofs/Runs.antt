@@ -9,7 +9,7 @@
 --     path-turns, turns-path, turns-below, round-back    the repetitions of the loop along a path
 --     steady-from       two repetitions that begin at the same state: it never stops
 --     steady            not stopped after as many repetitions as there are states: never
---     steady-path, steady-later    such a run, from its begin or from later on
+--     steady-path, steady-later    such a run, from its start or from later on
 --     takes, takes-recurring    the repetitions that take a transition which passes a test
 --     Endless, endless-path, endless-run, endless-meets-none    the same for a whole word, lead-in and loop
 --     run-view          a word either has such a run or stops
