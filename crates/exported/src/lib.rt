@@ -138,7 +138,7 @@ pub extern "C" fn duckbullion_list_table(
     list_table(table, capacity, targets, priorities, sources, records, out)
 }
 
-// An answer's number and value.
+// An answer's kind and value.
 fn answer_of(judged: Judged) -> Answer
     ensures { λ r. ⌜ answered r ≡ answerOf judged ⌝ }
 {

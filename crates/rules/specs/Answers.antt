@@ -1,6 +1,5 @@
 -- A judge's answer to a looped word, over any transition system and any condition on its recurring transitions.
---     Answer                        record of two numbers, our own: 0 accepts, 1 rejects, 2 stops with the letters read, 3 refused with its
---                                   number
+--     Answer                        two numbers, our own: 0 accepts, 1 rejects, 2 stops with the letters read, 3 refused with its number
 --     accepts, rejects, stops n, refused n    the four answers
 --     judgedBy s q lead l good      answer: stops, or accepts exactly if the recurring transitions are good
 --     Verdict s q lead l good x     claim: x is what the recurring transitions decide, those for which `Recurs` holds

@@ -1,8 +1,8 @@
 -- What a construction has to show, stated once for every kind of memory, and what follows from it: demand 3 (proofs/Demand3).
 --     memoryAfter s k q m w     memory: m carried from q along the letters of w
 --     largestAlong s k q m w    number: the largest priority on that way
---     Lawful s k good Fits      claim: a keeper k over the system s decides `good`, a condition on sets of transitions; Fits q m says that m is
---                               a memory that can stand at q
+--     Lawful s k good Fits      claim: a keeper k over the system s decides `good`, a condition on sets of transitions; Fits q m says that m
+--                               can be the memory at q
 --     Faithful s start good n ts ps ss    claim: n rows with these targets, priorities and source states agree with the system and the
 --                               condition: on looped words of any length, in the judges' answers, and on closed walks
 use mathlib.Core.Path.{_≡_}

@@ -17,8 +17,7 @@
 --     recurring s q lead l         list: the transitions taken in as many repetitions more: of that many repetitions some begins at a state for
 --                                  the second time, so these are just the transitions that recur (`recurs-view`)
 --     Stop s p w                   claim: reading w from p meets a missing transition: some letters lead on, and for the next there is none
---     MeetsMissing s q lead l i    claim: the word's run from q meets a missing transition after i letters, in the lead-in or in some
---                                  repetition
+--     MeetsMissing s q lead l i    claim: the word's run from q meets a missing transition after i letters, in the lead-in or in the loop
 --     TakenIn s q lead l r x       claim: x is taken in the repetition after the r-th
 --     Recurs s q lead l x          claim: for every r, x is taken in some repetition after the r-th
 --     goesFrom s p xs              test: xs is a walk from p: transitions that are there, each leaving the state to which the one before leads

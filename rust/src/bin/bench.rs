@@ -3,7 +3,7 @@
 //!
 //! `bench` runs everything; `bench a` to `bench d` run one part, `bench quick` all parts
 //! shortened. `bench profile-translate`, `bench profile-tiny`, `bench profile-parity` and
-//! `bench profile-rabin` only run the proved side, for a profiler, or the tuned one if the word
+//! `bench profile-rabin` only run the proved side, for a profiler, or the tuned one if the argument
 //! `tuned` follows. The environment variable SEED sets the seed.
 
 use std::hint::black_box;
@@ -1270,7 +1270,7 @@ fn part_d(random: &mut Random, effort: Effort) {
     println!("\n    summary (d): largest p/tuned {largest:.2}");
 }
 
-/// Reads the words of the command line and runs the parts they name.
+/// Reads the arguments of the command line and runs the parts they name.
 fn main() {
     let words: Vec<String> = std::env::args().skip(1).collect();
     let known = [
