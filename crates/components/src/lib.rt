@@ -110,7 +110,7 @@ pub fn find_reached(
     queue[0] = from as u16;
     let mut met = 1;
     let mut k = 0;
-    // all letters of the states at the places below k are read
+    // all letters of the states at the places below k are read, and `met` states are met
     while k < met {
         met = reach::read_state(
             states,

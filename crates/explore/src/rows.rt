@@ -111,7 +111,7 @@ fn read_row(
     let stride = write_effects(rule, key % SPAN, cells, first, m, &mut effects);
     let mut known = n;
     let mut a = 0;
-    // row i is read by the letters below a
+    // row i is read by the letters below a, and `known` rows are known
     while (a < task.letters) & (known <= capacity) {
         known = read_cell(
             cells[first + a],
@@ -149,7 +149,7 @@ fn read_rows(
 {
     let mut known = n;
     let mut i = row;
-    // the rows below i are read
+    // the rows below i are read, and `known` rows are known
     while (i < known) & ((known <= limit) & (known <= capacity)) {
         known = read_row(
             task,
