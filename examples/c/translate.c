@@ -1,5 +1,5 @@
 /*
- * Translates document 01's table T, prints the parity table, and judges the loop 0 1 on both. At the repository's root:
+ * Translates the table T of docs/RULES.md, prints the parity table, and judges the loop 0 1 on both. At the repository's root:
  *     rt staticlib exported
  *     cc -std=c99 -Wall -Wextra -pedantic -O2 -I include examples/c/translate.c -L target/staticlib -lexported -o target/translate
  */

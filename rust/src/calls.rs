@@ -1,8 +1,8 @@
 //! Safe wrappers over the C interface of the proved translator.
 //!
 //! Each wrapper hands its slices over as pointer and length and gives the answer back
-//! unchanged. What a call answers, and what it leaves in each lent array, is fixed by
-//! document 01; refusals have the numbers of its table, and 0 is success.
+//! unchanged. What a call answers, and what it leaves in each lent array, is fixed by the
+//! rules (docs/RULES.md); refusals have the numbers of "Refusals" there, and 0 is success.
 
 /// The largest capacity that the translator takes.
 pub const LARGEST_CAPACITY: usize = 4096;
@@ -166,7 +166,7 @@ pub fn check_table(table: &[u8]) -> u8 {
     unsafe { duckbullion_check_table(table.as_ptr(), table.len()) }
 }
 
-/// The letters byte as it stands, checked or not, 0 if a table is too short to have one.
+/// The byte of the letters, checked or not, 0 if a table is too short to have one.
 pub fn letters_of(table: &[u8]) -> u8 {
     // SAFETY: the pointer and length are those of one slice, which is only read.
     unsafe { duckbullion_letters_of(table.as_ptr(), table.len()) }
@@ -307,7 +307,7 @@ pub fn translate_table(
     }
 }
 
-/// Translates a Rabin table into arrays of its own, or gives the refusal's number.
+/// Translates a Rabin table into new vectors, or gives the refusal's number.
 pub fn translate(table: &[u8], capacity: usize) -> Result<ParityTable, u8> {
     let number = check_table(table);
     if number != 0 {

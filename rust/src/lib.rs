@@ -1,8 +1,8 @@
 //! The proved translator from Rabin tables to parity tables, called from Rust, and other
-//! implementations of the same paper (document 01) to compare and to time it with.
+//! implementations of the same rules (docs/RULES.md) to compare and to time it with.
 //!
 //! - `calls`: safe wrappers over the translator's C interface;
-//! - `plain`: an independent implementation, written from document 01 alone;
+//! - `plain`: an independent implementation, written from the rules alone;
 //! - `tuned`: the tuned conventional implementation;
 //! - `specialised`: versions of the tuned one that go beyond the conventional;
 //! - `random`: a seeded generator of tables, words, arrays and damage;

@@ -1,4 +1,4 @@
-//! An implementation of document 01, written from the document alone and as plainly as it
+//! An implementation of docs/RULES.md, written from that paper alone and as plainly as it
 //! reads: vectors, hash maps, Tarjan's components, runs followed until they repeat.
 //!
 //! It is what the proved translator is compared with, so it shares no code with it; only
@@ -94,7 +94,7 @@ fn reaches_above(mark: u8, pairs: usize) -> bool {
     u32::from(mark) >= 1 << pairs
 }
 
-/// Takes a table apart, or gives the first refusal of 1 to 6 in the paper's order.
+/// Takes a table apart, or gives the first refusal of 1 to 6 in the order of the rules.
 pub fn read(table: &[u8]) -> Result<Rabin, u8> {
     if table.len() < 4 {
         return Err(1);
@@ -156,9 +156,9 @@ pub fn check(table: &[u8]) -> u8 {
     }
 }
 
-/// The letters byte as it stands, checked or not, 0 if a table is too short to have one.
+/// The byte of the letters, checked or not, 0 if a table is too short to have one.
 ///
-/// Document 01 has no such call; this reading was taken over from the C interface.
+/// The rules have no such call; this reading is that of the C interface.
 pub fn letters_of(table: &[u8]) -> u8 {
     match table {
         [_, letters, ..] => *letters,

@@ -1,9 +1,10 @@
-//! The tuned conventional implementation of document 01's translator and judges, in safe Rust
+//! The tuned conventional implementation of the translator and the judges, in safe Rust
 //! with the standard library only.
 //!
-//! A record is packed in a word, three bits a pair; it stays as it is when a transition prohibits
-//! nothing that counts; rows are found by an open-addressing index; the judges stop at the first
-//! pass of the loop that begins where one began. `specialised` goes beyond and builds on this.
+//! A record is packed in one number, three bits for each pair; it stays as it is when a
+//! transition prohibits nothing that counts; rows are found by an open-addressing index; the
+//! judges stop at the first pass of the loop that begins where one began. `specialised` goes
+//! beyond and builds on this.
 
 use crate::calls::{Judged, Translation};
 
@@ -222,7 +223,7 @@ pub fn translate_table(
     translate_by(explore, table, capacity, lent)
 }
 
-/// The bits of a row's key below its state: a packed record, three bits a pair.
+/// The bits of a row's key below its state: a packed record, three bits for each pair.
 const RECORD_BITS: u32 = 18;
 
 /// The most pairs that a record has.
@@ -582,7 +583,7 @@ pub fn judge_rabin(table: &[u8], lead: &[u8], looped: &[u8]) -> Judged {
 }
 
 /// Walks a checked word on a Rabin table of `m` letters until a pass begins where one began; the
-/// slice that begins at the letter is cut while the state is still awaited.
+/// slice that begins at the letter is cut while the state is still being loaded.
 #[inline(always)]
 pub(crate) fn walk_rabin(rabin: &Rabin, m: usize, lead: &[u8], looped: &[u8]) -> Judged {
     let targets = rabin.targets;

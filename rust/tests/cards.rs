@@ -1,13 +1,13 @@
-//! The bench cards, the traps and the executable conditions of acceptance of document 01,
-//! run through the translator's C interface and compared with what the document says.
+//! The cards, the traps and the executable conditions of the rules (docs/RULES.md),
+//! run through the translator's C interface and compared with what the rules say.
 
 use duckbullion::calls::{self, Judged, ParityTable, Translation};
 use duckbullion::plain::{self, Lent};
 
-/// The table T of document 01.
+/// The table T of docs/RULES.md.
 const T: [u8; 16] = [2, 2, 2, 0, 0, 1, 0, 1, 1, 2, 0, 0, 0, 1, 2, 0];
 
-/// The listing that document 01 gives of T.
+/// The listing of T in docs/RULES.md.
 const LISTING: &str = "\
 4 2 2
 0 0 12 0 0 4
@@ -373,7 +373,7 @@ const DELIVERED: Delivery = Delivery {
     judge: calls::judge_rabin,
 };
 
-/// The demands of document 01 that a delivery breaks on a few tables.
+/// The demands of the rules that a delivery breaks on a few tables.
 fn broken(delivery: &Delivery) -> Vec<&'static str> {
     let mut found = Vec::new();
     let mut demand = |holds: bool, name| {

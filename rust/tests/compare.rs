@@ -16,7 +16,7 @@ use std::io::Write;
 const SEED: u64 = 20_250_101;
 /// The number of table cases of a run that sets none.
 const CASES: u64 = 150_000;
-/// A run of fewer table cases is not asked to meet every refusal.
+/// A run of fewer table cases need not see every refusal.
 const FULL_RUN: u64 = 20_000;
 
 /// A number from the environment.
@@ -86,7 +86,7 @@ impl Case<'_> {
     }
 }
 
-/// The outcomes met, by call: numbers 0 to 11, then accepts, rejects and stops.
+/// The outcomes seen, by call: numbers 0 to 11, then accepts, rejects and stops.
 #[derive(Default)]
 struct Tally {
     met: BTreeMap<&'static str, [u64; 15]>,
@@ -139,7 +139,7 @@ impl Tally {
         print(&text);
     }
 
-    /// Demands that a call met each of these outcomes in a run of full size.
+    /// Demands that a call gave each of these outcomes in a run of full size.
     fn demand(&self, call: &str, columns: impl IntoIterator<Item = usize>) {
         if cases() < FULL_RUN || setting("ONLY").is_some() {
             return;
@@ -189,7 +189,7 @@ fn compare_checks(case: &Case, random: &mut Random, tally: &mut Tally) {
     tally.number("find_components", number);
 }
 
-/// The rows that a table's exploration reaches, if it has a check passed and at most 4,096.
+/// The rows that a table's exploration reaches, if it passes the check and has at most 4,096.
 fn reachable(table: &[u8]) -> Option<usize> {
     let rabin = plain::read(table).ok()?;
     Some(plain::explore(&rabin, plain::MOST_ROWS)?.len())
@@ -513,7 +513,7 @@ mod listing {
     }
 }
 
-/// Compares the components and the reach of one system, in arrays with junk behind.
+/// Compares the components and the reach of one system, in arrays with junk past the entries.
 fn compare_system(shape: systems::Shape, random: &mut Random, states: usize, letters: usize) {
     let mut targets = systems::targets(random, shape, states, letters);
     let found = systems::components(states, letters, &targets);

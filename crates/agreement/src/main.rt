@@ -1,7 +1,7 @@
 // The translator and both judges, end to end. `judge_both` is demand 3 as a program: over any table, capacity, word and lent arrays
 // its contract says, from the contracts of the calls alone, that where the table is translated both judges give the same
-// answer. `main` runs it on the word cards of document 01; what is printed is compared with `stdout`, which was written from the
-// document.
+// answer. `main` runs it on the cards about words (RULES, "Cards"); what is printed is compared with `stdout`, which was written from
+// the rules.
 use judge::Judged;
 use judge::judge_parity;
 use judge_rabin::judge_rabin;
@@ -13,7 +13,7 @@ ghost use Rattle.rules.specs.Says.{RabinSays, ParitySays, TranslateSays, rowArr
 ghost use Rattle.rules.specs.Tables.{tableOf};
 ghost use Rattle.judge.specs.Judgements.{answerOf};
 
-// The rows lent, and the cells.
+// The rows that are lent, and their cells.
 const ROWS: usize = 4;
 
 const CELLS: usize = 8;

@@ -1,7 +1,7 @@
 -- What holds where sizes and arrays fit.
---     components-room    a search for components has room
---     components-tested  what the code tests
---     reach-room         a search from a state has room, and begins at a state
+--     components-room      a search for components has room
+--     components-tested    what the code tests
+--     reach-room           a search from a state has room, and begins at a state
 use mathlib.Core.Path.{_≡_, refl}
 use mathlib.Core.Bool.{Bool, true, _&&_}
 use mathlib.Core.List.{List}

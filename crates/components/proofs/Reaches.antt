@@ -1,11 +1,11 @@
 -- A search from one state on, for any system and whatever the arrays are.
---     reached-start, reached-old, reached-new, reached-row     the first state; one letter more, to a state that is met or not; all letters of a state
---     reached-path       a path leads to every state that is met, with fewer letters than its number
---     untouched-none, untouched-then, untouched-start     entries past the states that are met: nothing is written, one writing after another,
---                        the numbers are cleared and the first state is met
---     Reaching, reach-room-kept, reaching-none, reaching-more, reached-own     the search underway
---     LeadsOn, Leading, leading-none, leading-more, leading-all     a path written from its end
---     reached-exact      when all letters are read, what is met is what is reached
+--     reached-start, reached-old, reached-new, reached-row    the first state; one letter more, to a state that is met or not; all letters of a state
+--     reached-path     a path leads to every state that is met, with fewer letters than its number
+--     untouched-none, untouched-then, untouched-start    entries past the states that are met: nothing is written, one writing after another, the
+--                      numbers are cleared and the first state is met
+--     Reaching, reach-room-kept, reaching-none, reaching-more, reached-own    the search underway
+--     Earlier, LeadsOn, Leading, leading-none, leading-more, leading-all    a path written from its end
+--     reached-exact    when all letters are read, what is met is what is reached
 use mathlib.Core.Path.{_≡_, refl, sym, ap, _∙_}
 use mathlib.Core.Bool.{Bool, false, not, _&&_}
 use mathlib.Core.List.{List, [], _∷_, _++_}
@@ -162,7 +162,7 @@ module _ (s : System) (from c k a : ℕ) (number queue parent letter : ℕ → �
           let e : queue (number y - 1) ≡ y = x .places .placed y (h .0) (h .1) (x .low y (h .0)) in
           (t, rw e at (x .closed (number y - 1) b (omega (arith, x .low y (h .0), h .1)) lb (rw e t)))
 
--- ---- the search underway, since its arrays were as those without a mark
+-- ---- the search underway, since its arrays were as those without a prime
 pub record Reaching (s : System) (from c k a : ℕ) (targets numbers numbers′ queue queue′ parents parents′ letters letters′ : List ℕ) : Type 0 where
   pub reached : Reached s from c k a (at numbers′) (at queue′) (at parents′) (at letters′)
   pub room : ReachRoom s targets numbers′ queue′ parents′ letters′

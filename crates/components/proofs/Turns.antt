@@ -1,12 +1,12 @@
 -- The turns of a search, over arrays.
---     next-kept, next-stored     a state's next letter is stored
---     turn-read          all letters of a state are read
---     turn-entered       a letter leads to a state that is not yet met
---     quiet-below        nothing waits beyond what waits last
---     turn-closed       the last part is a component
---     room-kept          arrays that keep their lengths have room
---     Underway, underway-none, underway-more     a search since its arrays were as given
---     searched-none, searched-root, searched-empty, all-found     how a search begins and ends
+--     next-kept, next-stored    a state's next letter is stored
+--     turn-read                 all letters of a state are read
+--     turn-entered              a letter leads to a state that is not yet met
+--     quiet-below               nothing waits beyond what waits last
+--     turn-closed               the last part is a component
+--     room-kept                 arrays that keep their lengths have room
+--     Underway, underway-none, underway-more    a search since its arrays were as given
+--     searched-none, searched-root, searched-empty, all-found    how a search begins and ends
 use mathlib.Core.Path.{_≡_, refl, sym, ap, _∙_}
 use mathlib.Core.Bool.{true}
 use mathlib.Core.List.{List}
@@ -193,7 +193,7 @@ quiet-below s c p l v number start waiting next x h j b =
 pub room-kept : (s : System) (targets work work′ : List ℕ) → Room s targets work → length work′ ≡ length work → Room s targets work′
 room-kept s targets work work′ r e = record { small = r .small; letters-small = r .letters-small; cell-room = r .cell-room; work-room = rw e (r .work-room) }
 
--- a search since its arrays were as those without a mark
+-- a search since its arrays were as those without a prime
 pub record Underway (s : System) (c p l : ℕ) (targets work work′ outs outs′ : List ℕ) : Type 0 where
   pub now : SearchedIn s c p l work′ outs′
   pub room : Room s targets work′

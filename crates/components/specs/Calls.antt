@@ -1,12 +1,14 @@
 -- What the crate's calls promise, for all sizes and arrays. A prime marks an array's contents at exit.
---     cellsFit n m t           n states and m letters are few enough, and t targets are enough for their cells
---     componentsFit n m ..     a search for components can begin: sizes, targets, five entries for each state to work in, and room for the results
---     ComponentsFound n m ..   the smallest state of each state's component at the front of `out`, entries past the states untouched; and what these
---                              numbers are, in terms of paths
---     reachFits n m from t ..  a search from a state can begin: sizes, t targets, and the lengths of four arrays
---     ReachFound n m from ..   exactly the states that `from` reaches are met, each with the place that it was met from and the letter;
---                              entries past the states, and past those met, untouched
---     PathFound place ..       where a search has left parents and letters: the end of `out`, from the result on, is a path to the state at the place
+--     cellsFit n m t             test: n states and m letters are few enough, and t targets are enough for their cells
+--     componentsFit n m ..       test: a search for components can begin: sizes, targets, five entries to work in for each state, room for
+--                                results
+--     ComponentsFound n m ..     claim: the smallest state of each state's component is at the front of `out`, entries past the states
+--                                untouched; and what these numbers are, in terms of paths
+--     reachFits n m from t ..    test: a search from a state can begin: sizes, t targets, and the lengths of four arrays
+--     ReachFound n m from ..     claim: exactly the states that `from` reaches are met, each with the place that it was met from and the
+--                                letter; entries past the states, and past those met, untouched
+--     PathFound place ..         claim: where a search has left parents and letters, `out` from the result on is a path to the state at the
+--                                place
 use mathlib.Core.Path.{_≡_}
 use mathlib.Core.Bool.{Bool, true, false, _&&_}
 use mathlib.Core.List.{List}

@@ -52,8 +52,8 @@ fn clear(n: usize, array: &mut [u16])
     }
 }
 
-// The smallest state of each state's component, in the first entries of `out`; false where the sizes or an array do not fit. In `work`
-// the search needs five entries for each state, which is tested by a quotient since a product could wrap: what they hold afterwards is not said.
+// The smallest state of each state's component, in the first entries of `out`; false where the sizes or an array do not fit. The search
+// needs five entries of `work` for each state, which a quotient tests since a product could wrap; what they hold afterwards is unspecified.
 pub fn find_components(
     states: usize,
     letters: usize,
@@ -110,7 +110,7 @@ pub fn find_reached(
     queue[0] = from as u16;
     let mut met = 1;
     let mut k = 0;
-    // all letters of the states at the places below k are read
+    // all letters of the states at the places below k are read, and `met` states are met
     while k < met {
         met = reach::read_state(
             states,

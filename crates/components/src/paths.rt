@@ -1,8 +1,8 @@
-// A path-based search for components. The open states stand on a stack and fall into parts; each part shares a component and leads to
-// the next. A letter that leads back to an earlier part joins all parts from there on; a last part whose letters are all read is a
-// component. It takes time linear in the cells: each letter is read once, each state is opened once and its component named once, and each part is joined or settled once.
-// One array is lent to work in, for n states five times n entries: the states' numbers from 0 on, the stack from n, where each part starts
-// from 2 n, the states that wait from 3 n, and the states' next letters from 4 n.
+// A path-based search for components. The open states are on a stack that is divided into parts; the states of a part share a component,
+// and each part leads to the next. A letter that leads back to an earlier part joins all parts from there on; a last part whose letters are
+// all read is a component. The time is linear in the cells: each letter is read once, each state opened and named once, each part joined or
+// closed once. One array is lent to work in, with 5 n entries for n states: the states' numbers from 0 on, the stack from n, where each part
+// starts from 2 n, the states that wait from 3 n, and the states' next letters from 4 n.
 use crate::cells::target_at;
 ghost use mathlib.Core.Path.{_≡_};
 ghost use mathlib.Core.List.{List};
@@ -28,13 +28,13 @@ struct Reading {
     parts: usize,
 }
 
-// The parts that are left when all behind a number are joined to the part that holds it.
+// The parts that are left when all parts after the one that holds a number are joined to it.
 fn joined(starts: &[u16], parts: usize, number: u16) -> usize
     requires { ⌜ (0 < parts) × (parts ≤ length (now starts)) × (at (now starts) 0 < number) × Rising parts (at (now starts)) ⌝ }
     ensures { λ r. ⌜ Joined (at (now (starts .entry))) parts number r ⌝ }
 {
     let mut kept = parts;
-    // the parts from kept on start at the number or behind it
+    // the parts from kept on start at the number or after it
     while number <= starts[kept - 1] {
         kept -= 1;
     }
@@ -124,7 +124,7 @@ fn name_component(n: usize, from: usize, to: usize, work: &mut [u16], outs: &mut
     }
 }
 
-// Reads on from q, which waits last and stands in the last part: up to a state that is not yet met, which is opened, or to the end.
+// Reads on from q, the last state that waits, which is in the last part: up to a state that is not yet met, which is opened, or to the end.
 // The components found, whatever they are, stay as they are.
 fn extend(
     n: usize,
@@ -161,7 +161,7 @@ fn extend(
     }
 }
 
-// One turn of the search: reads on from the last state that waits, if it stands in the last part; or else that part is a component.
+// One turn of the search: reads on from the last state that waits, if it is in the last part; if it is not, that part is a component.
 fn turn(
     n: usize,
     m: usize,
@@ -191,7 +191,7 @@ fn turn(
     }
 }
 
-// Searches from a state, unless it is met already: everything that it reaches has its component.
+// Searches from a state, unless it is met already: then all that it reaches has its component.
 pub(crate) fn search(
     n: usize,
     m: usize,
@@ -210,7 +210,7 @@ pub(crate) fn search(
     let mut count = 1;
     let mut parts = 1;
     let mut left = 1;
-    // `SearchedIn`: the open states in their parts, the letters read, the components found
+    // `SearchedIn` holds: the open states are in their parts, by the letters read, and the other states that are met have their component
     while 0 < count {
         let heights = turn(n, m, targets, count, parts, left, work, outs);
         count = heights.open;

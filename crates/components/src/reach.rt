@@ -1,4 +1,4 @@
-// A search from one state on: states stand in a queue as they are met, each with the place of the state that led there and the letter.
+// A breadth-first search from one state: states are queued as they are met, each with the place of the state that led to it and the letter.
 use crate::cells::target_at;
 ghost use mathlib.Core.Path.{_≡_};
 ghost use Prim.Native.Nat.{_+_, _<_};

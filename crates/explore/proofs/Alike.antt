@@ -1,7 +1,7 @@
 -- Cells with the same marks, and the effects of a row's cells.
---     only-pairs                 there is one rule
---     alike-more                 one cell more, where its marks are compared
---     effects-all                the effect of each letter, where one serves for all or each has its own
+--     only-pairs     there is one rule
+--     alike-more     one cell more, where its marks are compared
+--     effects-all    the effect of each letter, where one serves for all or each has its own
 use mathlib.Core.Path.{_≡_, refl, sym, _∙_}
 use mathlib.Core.Bool.{Bool, true, _&&_}
 use mathlib.Core.List.{List}

@@ -1,9 +1,9 @@
 -- From what the exploration found to what it promises.
---     has-room             what holds where no array is too short
---     fit-sizes            what a task that is not unfit has
---     rows-done            all rows are read, or more than the capacity were found
---     many-after           rows read with a large index behind those read with a small one
---     answer-unfit, answer-full, answer-rows     the three answers
+--     has-room      what holds where no array is too short
+--     fit-sizes     what a task that is not unfit has
+--     rows-done     all rows are read, or more than the capacity were found
+--     many-after    rows read with a large index after those read with a small one
+--     answer-unfit, answer-full, answer-rows    the three answers
 use mathlib.Core.Path.{_≡_, refl, sym, ap, _∙_}
 use mathlib.Core.Bool.{true, false, _||_}
 use mathlib.Core.List.{List}

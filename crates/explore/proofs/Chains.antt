@@ -1,9 +1,9 @@
 -- The index of keys: what its chains hold, and how a key is found along one.
---     slot-below         the slot of a key is a slot
---     indexed-none, indexed-more     the index of no key; one key more, behind keys that stay as they are
---     Sought slots n key keys at     the search for a key stands at `at`: every place of the key among the first n is below it
---     next-below         a link falls
---     sought-first, sought-next      the search begins at a slot's head, and goes on along the links
+--     slot-below                    the slot of a key is a slot
+--     indexed-none, indexed-more    the index of no key; one key more, after keys that stay as they are
+--     Sought slots n key keys at    the search for a key is at `at`: every place of the key among the first n is below it
+--     next-below                    a link falls
+--     sought-first, sought-next     the search begins at a slot's head, and goes on along the links
 use mathlib.Core.Path.{_≡_, refl, sym, ap, _∙_}
 use mathlib.Core.List.{List}
 use Prim.Native.Nat.{ℕ, zero, suc, _-_, _*_, _/_, _%_, _<_, _≤_}

@@ -1,8 +1,8 @@
 -- A key is looked up and, where it is absent and there is room, its row is filed.
---     number-most, number-found, number-absent     the number of a key among keys of which none stands twice
---     rows-old, rows-new              how many rows there are when a key was found or added
---     filed-found, filed-full, filed-added     the three outcomes
---     linked-more                     the index with the key that was added
+--     number-most, number-found, number-absent    the number of a key among keys that are all different
+--     rows-old, rows-new    how many rows there are when a key was found or added
+--     filed-found, filed-full, filed-added    the three outcomes
+--     linked-more           the index with the key that was added
 use mathlib.Core.Path.{_≡_, refl, sym, _∙_}
 use mathlib.Core.List.{List}
 use Prim.Native.Nat.{ℕ, suc, _<_, _≤_}

@@ -1,9 +1,9 @@
 -- The exploration's loops: letter by letter through a row, and row by row.
---     RowPart               row i is read by the letters below a
---     row-begun, row-next, row-done     no letter; one letter more; all letters, or more rows than there is room for
---     stage-begun           the first row is known, and none is read
---     part-begun, part-after, rows-next     no row more than at a stage is read; the first row was filed before; one row more
---     all-read, all-over    all rows are read; more than the capacity were found
+--     RowPart                              row i is read by the letters below a
+--     row-begun, row-next, row-done        no letter; one letter more; all letters, or more rows than there is room for
+--     stage-begun                          the first row is known, and none is read
+--     part-begun, part-after, rows-next    no row more than at a stage is read; the first row was filed before; one row more
+--     all-read, all-over                   all rows are read; more than the capacity were found
 use mathlib.Core.Path.{_≡_, refl, sym, ap, _∙_}
 use mathlib.Core.Bool.{false, _&&_, and-false}
 use mathlib.Core.List.{List}

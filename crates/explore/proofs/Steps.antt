@@ -1,12 +1,12 @@
 -- A row is read by a letter.
---     keyed-same           sameness of keys is equality
---     key-row              the row of a number is the key of that number
---     step-here            the step of a cell, by its word and the effect of its marks
---     row-fits, cell-fits  the cells of a key that fits
---     step-fits            a step leads to keys that fit
---     read-missing, read-there     a cell has been read whose transition is missing, or is there and its key is filed
---     step-count, step-most, step-rest, step-rows, step-front, step-known     how many rows there are then, at most one more, what stays behind
---                          them, which they are, that those known before stay, and what is known
+--     keyed-same                          sameness of keys is equality
+--     key-row                             the row of a number is the key of that number
+--     step-here                           the step of a cell, by its code and the effect of its marks
+--     row-fits, cell-fits                 the cells of a key that fits
+--     code-fits, step-fits, step-there    a code and a step lead to keys that fit; the code of a transition gives a step that is there
+--     read-missing, read-there            a cell has been read whose transition is missing, or is there and its key is filed
+--     step-count, step-most, step-rest, step-rows, step-front, step-known    how many rows there are then, at most one more, what stays past them,
+--                                         which they are, that those known before stay, and what is known
 use mathlib.Core.Path.{_≡_, refl, sym, ap, _∙_}
 use mathlib.Core.Bool.{Bool, true, false}
 use mathlib.Core.List.{List, [], _∷_, _++_}

@@ -1,13 +1,13 @@
--- Keys, and the codes of cells. A key is a row in one number: its state above its memory. A code says what a cell of a table does.
---     span                 one more than the largest memory
---     keyOf q w            the key of the state q with the memory w;  sourceIn v, memoryIn v  its parts
---     crossingKind, insideKind     what is added for the kind of a transition that is there; a missing one has a code below both
---     crossingCode v       the code of a crossing that enters at the key v
---     insideCode x marks   the code of an inside transition to the state x
---     enteredIn, targetIn, marksIn w     the parts of a code
---     stateIn w            the state to which the code w leads
---     strays n w           the transition of w is there and leads to no state below n
---     stepIn w e           the step of a cell with the code w, e being the effect of its marks: the memory after it, and above that the priority
+-- Keys, and the codes of cells. A key is a row as one number, span times its state plus its memory. A code says what a cell of a table does.
+--     span                              one more than the largest memory
+--     keyOf q w, sourceIn, memoryIn v   the key of the state q with the memory w; the parts of a key
+--     crossingKind, insideKind          what is added for the kind of a transition that is there; a missing one has a code below both
+--     crossingCode v                    the code of a crossing that enters at the key v
+--     insideCode x marks                the code of an inside transition to the state x
+--     enteredIn, targetIn, marksIn w    numbers: the parts of the code w
+--     stateIn w                         the state to which the code w leads
+--     strays n w                        test: the transition of w is there and leads to no state below n
+--     stepIn w e                        step of a cell with the code w and the effect e of its marks: the memory after it and the priority
 use mathlib.Core.Bool.{Bool, true, false, _&&_}
 use Prim.Native.Nat.{ℕ, _+_, _*_, _/_, _%_}
 use lib.Dec.{ltb, leb}

@@ -1,11 +1,11 @@
 -- What marks do to a memory, for each rule, and what is explored.
---     effectBy rule order marks    the effect: the memory after the move, and span times the priority
---     IsEffect rule order marks e  e is the effect, and its priority is a byte
---     keyStep, keyPlan             the rows of a task as keys: a cell's code and the effect of its marks on the memory
---     SameMarks first m cells      the m cells from `first` on have the same marks
---     Strides first m cells r      r is at most 1, and 0 only if they do
---     EffectsTo rule order first n cells effects      the effects of n cells on a memory, one by one
---     EffectsOn rule order first m r cells effects    the effects of m cells on a memory, that of cell a at place a · r
+--     effectBy rule order marks      number, the effect: the memory after the move, and span times the priority
+--     IsEffect rule order marks e    claim: e is the effect, and its priority is a byte
+--     keyStep, keyed, keyPlan        step and plans of a task's rows as keys: a cell's code and the effect of its marks on the memory
+--     SameMarks first m cells        claim: the m cells from `first` on have the same marks
+--     Strides first m cells r        claim: r is at most 1, and 0 only if they do
+--     EffectsTo rule order first n cells effects    claim: the effects of n cells on a memory, one by one
+--     EffectsOn rule order first m r cells effects    claim: the effects of m cells on a memory, that of cell a at place a · r
 use mathlib.Core.Path.{_≡_}
 use mathlib.Core.List.{List}
 use Prim.Native.Nat.{ℕ, _+_, _*_, _/_, _%_, _<_, _≤_}

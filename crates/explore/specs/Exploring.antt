@@ -1,23 +1,23 @@
 -- The exploration: what a task must have, which rows are known, which cells are read, and what is promised.
---     statesIn m cells             the states that the cells are for
---     isUnfit t cells c k a b      the letters or the capacity are out of range, the start or a code leads outside the cells, or one of the
---                                  arrays, for k keys, a targets and b priorities, is too short
---     Fits m cells v               the cells of the key's state are among the cells
---     Closed t cells               the letters are in range, and the start and every code lead to keys that fit
---     Room m c ts ps keys          the capacity c is in range, and the lent arrays have room for as many rows
---     Lent, lent keys ts ps        the keys, targets and priorities of rows, in three arrays; a prime marks them at exit
---     LinkRoom c k links           there is a link for each place below both c and k
---     StepRead x c n p (lent .. cell step) (lent a whose is) x has been read; there is no plan here
---     Known t cells c n p ..       n keys are filed, the cells below p are read
---     RowSays t cells c n i (lent .. i been) (lent row has read) by all letters
---     Stage t cells c i n ..       the rows below i are read, n are known, and the exploration goes on from here, whatever the capacity
---     RowsPart t cells c i (lent .. what the) (lent r reading rows) below i leaves, r being known: a stage, or more than c
---     RowsSay t cells n l c i (lent .. the from) (lent r same n) known rows on, where all rows were read or more than l are known
---     ExploresAll t cells c (lent .. all have) (lent r rows been) read, or more than c were found
---     exploredOf t cells c k a b   the answer of an exploration
---     Leaves x t cells c (lent .. the hold) (lent what arrays after) the answer x: the rows, and what was there behind them; after Full the first c
---                                  rows of each are left open, and only what is behind them is as it was; after Unfit all is as it was
---     ExploreSays t cells c (lent .. an the) (lent x exploration: answer) and the arrays
+--     statesIn m cells                  number: the states that the cells are for
+--     isUnfit t cells c k a b           test: the letters or the capacity are out of range, the start or a code leads outside the cells, or one
+--                                       of the arrays, for k keys, a targets and b priorities, is too short
+--     Fits m cells v                    claim: the cells of the key's state are among the cells
+--     Closed t cells                    claim: the letters are in range, and the start and every code lead to keys that fit
+--     Room m c ts ps keys               claim: the capacity c is in range, and the lent arrays have room for as many rows
+--     LinkRoom c k links                claim: there is a link for each place below both c and k
+--     Lent, lent keys ts ps             record of three arrays, the keys, targets and priorities of rows: o before, o′ after
+--     StepRead x c n p o o′ r           claim: cell p, whose step is x, is read, and r keys are known, where n were; there is no plan here
+--     Known t cells c n p o             claim: n keys are filed, and the cells below p are read
+--     RowSays t cells c n i o o′ r      claim: row i has been read by all letters, and r rows are known, where n were, or more than c
+--     Stage t cells c i n o             claim: the rows below i are read, n are known, and the exploration goes on, whatever the capacity
+--     RowsPart t cells c i o o′ r       claim: what reading the rows below i leaves, r being known: a stage, or more than c
+--     RowsSay t cells n l c i o o′ r    claim: the same from n known rows on, where all rows are read or more than l are known
+--     ExploresAll t cells c o o′ r      claim: all r rows have been read, or more than c were found
+--     exploredOf t cells c k a b        the answer of an exploration
+--     Leaves x t cells c o o′           claim: what the arrays hold after the answer x: the rows, later entries untouched; after Full the first
+--                                       c rows of each are unspecified; after Unfit all is untouched
+--     ExploreSays t cells c o o′ x      claim: an exploration gives the answer x and leaves the arrays so
 use mathlib.Core.Path.{_≡_}
 use mathlib.Core.Bool.{Bool, false, _||_}
 use mathlib.Core.List.{List}

@@ -1,7 +1,7 @@
 -- Keys that are filed, and their index.
---     Filed c n keys               n keys of at most c are filed, each once
---     rowsAfter n r                how many keys are filed when the one of number r has been looked up among n
---     Files c key n .. r         a prime marks an array's contents at exit: r is the key's number, and it has been filed if it was absent and there was room
+--     Filed c n keys                claim: n keys of at most c are filed, each once
+--     rowsAfter n r                 number: how many keys are filed when the one of number r has been looked up among n
+--     Files c key n keys keys′ r    claim: r is the key's number, and it has been filed if it was absent and there was room
 use mathlib.Core.Path.{_≡_}
 use mathlib.Core.List.{List}
 use Prim.Native.Nat.{ℕ, suc, _≤_}

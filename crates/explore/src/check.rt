@@ -9,12 +9,13 @@ ghost use Rattle.rules.specs.Basics.{any};
 ghost use Rattle.explore.specs.Cells.{strays};
 ghost use Rattle.explore.specs.Exploring.{isUnfit};
 
-// Some code leads to no state below n. Every code is looked at, without a branch.
+// Some code leads to no state below n: no early exit and no branch.
 fn any_strays(cells: &[u32], n: usize) -> bool
     ensures { λ r. ⌜ r ≡ any (strays n) (now (cells .entry)) ⌝ }
 {
     let mut found = false;
     let mut i = 0;
+    // found says whether one of the first i codes leads to none
     while i < cells.len() {
         found = found | strays(cells[i], n);
         i += 1;

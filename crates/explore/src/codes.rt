@@ -37,7 +37,7 @@ fn state_of(code: u32) -> u32
     code / 65536 % 1024
 }
 
-// The transition of a code is there and leads to no state below n. It has no branch, and codes side by side become vector code.
+// The transition of a code is there and leads to no state below n. There is no branch, so that a loop over codes becomes vector code.
 pub(crate) fn strays(code: u32, n: usize) -> bool
     ensures { λ r. ⌜ r ≡ strays n code ⌝ }
 {

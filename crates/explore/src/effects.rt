@@ -10,7 +10,7 @@ ghost use Rattle.explore.specs.declared.Rule.the-variants.{Pairs};
 ghost use Rattle.explore.specs.Cells.{span};
 ghost use Rattle.explore.specs.Effects.{IsEffect, Strides, EffectsTo, EffectsOn};
 
-// The effect by pairs, prohibited ones in the lower byte of the marks, required ones in the upper: no branch, so that it becomes vector code.
+// The effect by pairs, prohibited ones in the lower byte of the marks, required ones in the upper: without a branch it becomes vector code.
 fn effect_by_pairs(memory: u32, marks: u32) -> u32
     requires { ⌜ (memory < span) × (marks < 65536) ⌝ }
     ensures { λ r. ⌜ IsEffect Pairs memory marks r ⌝ }

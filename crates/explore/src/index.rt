@@ -11,7 +11,7 @@ pub(crate) enum Found {
     Absent,
 }
 
-// The slot of a key, by the upper bits of its product with a large odd number. The slots are to be a power of two, or some stay empty.
+// The slot of a key, by the upper bits of its product with a large odd number. The slots should be a power of two, or some stay empty.
 fn slot(key: u32, slots: usize) -> usize
     requires { ⌜ 0 < slots ⌝ }
     ensures { λ r. ⌜ r ≡ slotOf slots key ⌝ }

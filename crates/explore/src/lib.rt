@@ -1,4 +1,4 @@
-// The exploration of rows that are numbers. It knows no table: a row is a key, a state above a memory, and each cell of a table is a code.
+// The exploration of rows that are numbers. It knows no table: a row is a key, made of a state and a memory, and a cell is a code.
 // It rests on `records`, which moves the memories. `find_rows` numbers the rows that the first one reaches, in order of discovery, and
 // keeps the promise `ExploreSays`.
 mod check;
@@ -26,15 +26,14 @@ pub struct Task {
     pub start: u32,
 }
 
-// How many rows there are; or that there are more than the capacity; or that the codes lead outside the cells, a size is out of range or
-// an array is too short.
+// How many rows there are; or more than the capacity; or the codes lead outside the cells, a size is out of range or an array too short.
 pub enum Explored {
     Rows(usize),
     Full,
     Unfit,
 }
 
-// The capacity is out of range, or an array is below its size: a place for each row and letter of the first two, for each row of the others.
+// The capacity is out of range, or an array is too short: the first two need an entry for each row and letter, the others for each row.
 pub fn are_short(
     capacity: usize,
     letters: u8,

@@ -32,13 +32,13 @@ const FEW_ROWS: usize = FEW_LIMIT + MAX_LETTERS as usize;
 // The slots of the large index.
 const SLOTS: usize = 16384;
 
-// How far an exploration has come: the rows below `row` are read, and so many are known.
+// How far an exploration has come: the rows below `row` are read, and `known` rows are known.
 pub(crate) struct Progress {
     pub row: usize,
     pub known: usize,
 }
 
-// The key to which the transition of a code leads that is there.
+// The key to which the transition of a code leads, where it is there.
 fn next_key(code: u32, effect: u32) -> u32
     requires { ⌜ ltb code crossingKind ≡ false ⌝ }
     ensures { λ r. ⌜ r ≡ stepIn code effect .to ⌝ }
@@ -49,7 +49,7 @@ fn next_key(code: u32, effect: u32) -> u32
     key_of(code / 65536 % 1024, effect % SPAN)
 }
 
-// The priority of the transition of a code that is there.
+// The priority of the transition of a code, where it is there.
 fn priority_of(code: u32, effect: u32) -> u8
     requires { ⌜ (ltb code crossingKind ≡ false) × (effect < 256 * span) ⌝ }
     ensures { λ r. ⌜ r ≡ stepIn code effect .prio ⌝ }
@@ -111,7 +111,7 @@ fn read_row(
     let stride = write_effects(rule, key % SPAN, cells, first, m, &mut effects);
     let mut known = n;
     let mut a = 0;
-    // row i is read by the letters below a
+    // row i is read by the letters below a, and `known` rows are known
     while (a < task.letters) & (known <= capacity) {
         known = read_cell(
             cells[first + a],
@@ -149,7 +149,7 @@ fn read_rows(
 {
     let mut known = n;
     let mut i = row;
-    // the rows below i are read
+    // the rows below i are read, and `known` rows are known
     while (i < known) & ((known <= limit) & (known <= capacity)) {
         known = read_row(
             task,

@@ -1,7 +1,7 @@
 -- Where the rest of a piece lies, by what is handed back of the piece.
 --     rest-of-lead    before the lead-in's end: from the place on
---     rest-fits       behind it: no more letters than the loop has
---     rest-of-loop    behind it: as many letters before the loop's end as are handed back, past the last letter the loop's end
+--     rest-fits       past it: no more letters than the loop has
+--     rest-of-loop    past it: as many letters before the loop's end as are handed back, past the last letter the loop's end
 use mathlib.Core.Path.{_≡_, refl, ap}
 use mathlib.Core.List.{List, [], _∷_}
 use Prim.Native.Nat.{ℕ, zero, suc, _-_, _<_, _≤_}
@@ -12,7 +12,7 @@ use borrow.Author.Tests.{lt-ltb, le-ltb}
 use Rattle.rules.specs.Says.{RestSays}
 use Rattle.exported.specs.Results.{RestLies}
 
--- what is behind the first d is found from the end by its length
+-- what follows the first d is found from the end by its length
 drop-back : (d : ℕ) (xs : List ℕ) → drop (length xs - length (drop d xs)) xs ≡ drop d xs
 drop-back zero xs = let e : length xs - length xs ≡ 0 = omega arith in rw e
 drop-back (suc d) [] = refl

@@ -1,9 +1,9 @@
 -- What goes out of a call as numbers.
 --     answered r                 a judge's answer as the two numbers that go out
---     restPiece lead i           the piece in which the rest from place i on lies: 0 the lead-in, 1 the loop
---     restStart lead l i         the letter of that piece with which it begins: the loop's end where the place is past the last letter
---     pieceOf p lead l           the piece of a number
---     RestLies lead l i p s n    the rest from place i on is n letters of piece p, from letter s on
+--     restPiece lead i           number: the piece in which the rest from place i on lies: 0 the lead-in, 1 the loop
+--     restStart lead l i         number: the letter of that piece with which it begins, the loop's end where the place is past the last letter
+--     pieceOf p lead l           list: the piece of a number
+--     RestLies lead l i p s n    claim: the rest from place i on is n letters of piece p, from letter s on
 use mathlib.Core.Path.{_≡_}
 use mathlib.Core.List.{List}
 use Prim.Native.Nat.{ℕ, _-_, min}

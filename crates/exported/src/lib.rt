@@ -1,6 +1,6 @@
 // The public calls on tables and words for C and Rust: a slice goes out as a pointer and a length, an answer as two numbers.
-// It rests on `components`, `tables`, `translate`, `judge`, `judge_rabin` and `listing_text`, passes each call on as it is, and has no work of its own but to number an answer and
-// to say where a part lies. Each call keeps the promise of the one that it passes on to, for all bytes, arrays, sizes and places.
+// It rests on `components`, `tables`, `translate`, `judge`, `judge_rabin` and `listing_text`, passes each call on as it is, and only turns an answer
+// into numbers and a part into its place. Each call keeps the promise of the one that it passes on to, for all bytes, arrays, sizes and places.
 use components::find_reached;
 use components::path_to;
 use judge::Judged;
@@ -21,7 +21,7 @@ ghost use Rattle.components.specs.Calls.{ComponentsFound, ReachFound, PathFound
 ghost use Rattle.judge.specs.Judgements.{answerOf};
 ghost use Rattle.exported.specs.Results.{answered, RestLies};
 
-// A judge's answer by document 01's number and value: 0 accepts, 1 rejects, 2 stops with the letters read, 3 refused with the number.
+// A judge's answer as two numbers (RULES, "Judges"): 0 accepts, 1 rejects, 2 stops with the letters read, 3 refused with the number.
 #[repr(C)]
 pub struct Answer {
     pub kind: u32,
@@ -36,7 +36,7 @@ pub struct Rest {
     pub length: usize,
 }
 
-// The table's refusal, 1 to 6, or 0 where the table is taken.
+// The table's refusal, 1 to 6, or 0 where the table is well formed.
 #[no_mangle]
 pub extern "C" fn duckbullion_check_table(table: &[u8]) -> u8
     ensures { λ r. ⌜ CheckSays (now (table .entry)) r ⌝ }
@@ -138,7 +138,7 @@ pub extern "C" fn duckbullion_list_table(
     list_table(table, capacity, targets, priorities, sources, records, out)
 }
 
-// An answer's number and value.
+// An answer's kind and value.
 fn answer_of(judged: Judged) -> Answer
     ensures { λ r. ⌜ answered r ≡ answerOf judged ⌝ }
 {

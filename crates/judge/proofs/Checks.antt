@@ -1,10 +1,10 @@
 -- The checks before a judgement, and the refusals that they give.
---     first-given, first-same             a refusal that is met is the first; refusals by equal numbers
---     refused-given                     a refusal that is met is the answer
---     byte-letters                      over more letters than a byte can say the table is refused, whatever the word is
---     parity-tests                      the refusal of a parity table by its tests: of the sizes, of the arrays' lengths, of the targets
---     within-limits                     what the test of the sizes leaves
---     part-rest                         the part of a list from a place to the end is what is left behind that place
+--     first-given, first-same    a refusal whose test holds is the first; refusals by equal numbers
+--     refused-given              a refusal that is given is the answer
+--     byte-letters               over more letters than a byte can say the table is refused, whatever the word is
+--     parity-tests               the refusal of a parity table by its tests: of the sizes, of the arrays' lengths, of the targets
+--     within-limits              what the test of the sizes leaves
+--     part-rest                  the part of a list from a place to the end is what is left from that place on
 use mathlib.Core.Path.{_≡_, refl, sym, _∙_}
 use mathlib.Core.Bool.{Bool, false, _||_, or-assoc}
 use mathlib.Core.List.{List}

@@ -1,4 +1,4 @@
--- The judges' answers by document 01's numbers and values.
+-- The judges' answers as two numbers, their kind and value.
 --     answers-agree    where a parity table agrees with a Rabin table, both judges' answers are equal
 use mathlib.Core.Path.{_≡_, refl, sym, ap, _∙_}
 use mathlib.Core.List.{List}
@@ -13,7 +13,7 @@ use Rattle.judge.specs.Judgements.{answerOf}
 use Rattle.judge.specs.declared.Judged.{Judged}
 use Rattle.judge.specs.declared.Judged.the-variants.{Accepts, Rejects, Stops, Refused}
 
--- the answer of a number and a value
+-- the answer of a kind and a value
 abbrev judgedOf : Answer → Judged
 judgedOf x = pick (eqb (x .kind) 0) Accepts (pick (eqb (x .kind) 1) Rejects (pick (eqb (x .kind) 2) (Stops (x .value)) (Refused (x .value))))
 
@@ -23,7 +23,7 @@ read-back Rejects = refl
 read-back (Stops n) = refl
 read-back (Refused n) = refl
 
--- answers with the same number and value are equal
+-- answers with the same kind and value are equal
 same-answer : (a b : Judged) → answerOf a ≡ answerOf b → a ≡ b
 same-answer a b e = sym (read-back a) ∙ ap judgedOf e ∙ read-back b
 

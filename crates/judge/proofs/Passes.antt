@@ -1,10 +1,10 @@
 -- A word that is read pass by pass, over any transition system.
---     misses-judged               the answer where the lead-in meets a missing transition
---     underway-entry, underway-next, underway-kept     the lead-in is read; one pass more, and what it meets
---     underway-state, underway-count, underway-early     what holds of a word that is being read, and as long as a pass begins at a new place
---     underway-misses             the answer where a pass meets a missing transition
---     round-earlier, round-judged, round-sums     the next pass begins where an earlier one began: that one, the answer, what the
---                                 recurring transitions meet
+--     misses-judged      the answer where the lead-in meets a missing transition
+--     underway-entry, underway-next, underway-kept    the lead-in is read; one pass more, and its sum
+--     underway-state, underway-count, underway-early    what holds of a word that is being read, and as long as a pass begins at a new place
+--     underway-misses    the answer where a pass meets a missing transition
+--     round-earlier, round-judged, round-sums    the next pass begins where an earlier one began: that one, the answer, the sum of the recurring
+--                        transitions
 use mathlib.Core.Path.{_≡_, refl, sym, ap, _∙_, subst⁻¹}
 use mathlib.Core.Bool.{Bool, false}
 use mathlib.Core.List.{List}
@@ -68,7 +68,7 @@ module _ (s : System) (l : List ℕ) (e : ℕ) where
     begun-below : e < s .states → q < s .states
     begun-below h = rw (b .here) at (turns-below s l r e h (b .reads) r (omega arith))
 
-    -- as long as each pass begins at a place of its own, there are fewer passes than places
+    -- as long as each pass begins at a new place, there are fewer passes than places
     begun-early : e < s .states → getD begun q 0 ≡ 0 → r < s .states
     begun-early h new =
         by (ltb r (s .states)) (λ f. ltb-true r (s .states) f)
@@ -84,7 +84,7 @@ module _ (s : System) (l : List ℕ) (e : ℕ) where
             (λ f. omega (arith, first, there, b .noted j (omega (arith, eqb-false j r f))))
 
   module _ (t : ℕ → ℕ → Bool) (g : Taken → ℕ) where
-    -- what one pass more meets
+    -- the sum of one pass more
     kept-next : (r p v : ℕ) (vs : List ℕ) → turn s l r e ≡ p → r < length vs → SumsUp t g (passFrom s p l) v → SumsKept s l e t g r vs → SumsKept s l e t g (r + 1) (set vs r v)
     kept-next r p v vs at within h n i k =
         by
@@ -92,7 +92,7 @@ module _ (s : System) (l : List ℕ) (e : ℕ) where
         (λ f. rw (eqb-true i r f, getD-set-same vs r v 0 within, at) h)
         (λ f. rw (getD-set-other vs r i v 0 (eqb-false i r f)) (n i (omega (arith, eqb-false i r f))))
 
-    -- what some passes on end meet
+    -- the sum of consecutive passes
     kept-window : (r : ℕ) (vs : List ℕ) → r ≤ length vs → SumsKept s l e t g r vs → (d i : ℕ) → i + d ≤ r → (k : ℕ)
         → any (t k) (take d (drop i vs)) ≡ any (λ x. t k (g x)) (passFrom s (turn s l i e) (repeated d l))
     kept-window r vs enough n zero i within k = refl

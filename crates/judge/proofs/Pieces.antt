@@ -1,10 +1,10 @@
 -- Reading a piece of a word letter by letter, over any transition system.
---     letter-below         the letters of a piece without stray bytes
---     piece-more            one letter more that leads on
---     read-misses          one letter more that meets a missing transition
---     sums-letter           what one letter more meets
---     misses-within        a missing transition is met before the end of the piece
---     column-long, column-at     the part of some cells from a letter on: how long it is, and what stands there
+--     letter-below              the letters of a piece without stray bytes
+--     piece-more                one letter more that leads on
+--     read-misses               one letter more that meets a missing transition
+--     sums-letter               the sum with one letter more
+--     misses-within             a missing transition is met before the end of the piece
+--     column-long, column-at    the part of some cells from a letter on: how long it is, and its entries
 use mathlib.Core.Path.{_≡_, sym, ap, _∙_}
 use mathlib.Core.Bool.{Bool, false}
 use mathlib.Core.List.{List, [], _∷_, _++_}

@@ -1,8 +1,8 @@
--- Numbers that sum up what is met, by tests.
---     Joins t j           joining two numbers by j passes the test t i exactly if one of the two does
---     largest-joins, union-joins     the larger of two numbers; the union of two sets
---     sums-more            one thing more is met
---     sums-rest, sums-end   numbers that are gone through from the front
+-- Numbers that sum up others, by tests.
+--     Joins t j                     joining two numbers by j passes the test t i exactly if one of the two does
+--     largest-joins, union-joins    the larger of two numbers; the union of two sets
+--     sums-more                     one thing more is summed up
+--     sums-rest, sums-end           numbers that are gone through from the front
 use mathlib.Core.Path.{_≡_, sym, _∙_}
 use mathlib.Core.Bool.{Bool, _||_, or-false}
 use mathlib.Core.List.{List, [], _∷_, _++_}

@@ -1,5 +1,5 @@
--- The judges' answer as document 01's number and value.
---     answerOf j     0 accepts, 1 rejects, 2 stops with the letters read, 3 refused with the refusal's number
+-- The judges' answer as two numbers (RULES, "Judges").
+--     answerOf j    0 accepts, 1 rejects, 2 stops with the letters read, 3 refused with the refusal's number
 use Rattle.rules.specs.Answers.{Answer, accepts, rejects, stops, refused}
 use Rattle.judge.specs.declared.Judged.{Judged}
 use Rattle.judge.specs.declared.Judged.the-variants.{Accepts, Rejects, Stops, Refused}

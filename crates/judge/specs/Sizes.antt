@@ -1,5 +1,5 @@
--- The sizes of a parity judge's own arrays below the largest.
---     smallRows, middleRows     the rows that the small arrays and the middle ones have room for
+-- The sizes of the parity judge's local arrays below the largest.
+--     smallRows, middleRows    the rows that the small arrays and the middle ones have room for
 use Prim.Native.Nat.{ℕ}
 
 abbrev pub smallRows : ℕ

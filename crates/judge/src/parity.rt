@@ -17,19 +17,20 @@ ghost use Rattle.rules.specs.Tables.{badTargets};
 ghost use Rattle.judge.specs.Judgements.{answerOf};
 ghost use Rattle.judge.specs.Passes.{SumsUp, SumsUpOn, PieceSays, Blank};
 
-// Where reading a piece led, or no row where it met a missing transition; the letters read; the largest priority met.
+// Where reading a piece led, or no row where it met a missing transition; the letters read; the largest priority on the way.
 struct Reading {
     place: usize,
     read: usize,
     peak: u8,
 }
 
-// Some target is neither a row nor the missing one.
+// Some target is neither a row nor that of a missing transition.
 fn bad_targets(targets: &[u16], rows: u16) -> bool
     ensures { λ r. ⌜ r ≡ badTargets rows noRow (now (targets .entry)) ⌝ }
 {
     let mut bad = false;
     let mut c = 0;
+    // bad says whether one of the first c targets is wrong
     while c < targets.len() {
         let target = targets[c];
         bad = bad | !((target < rows) | (target == NO_ROW));
@@ -38,7 +39,7 @@ fn bad_targets(targets: &[u16], rows: u16) -> bool
     bad
 }
 
-// The refusal of a parity table, 11, or 0 where the table is taken.
+// The refusal of a parity table, 11, or 0 where the table is well formed.
 pub(crate) fn parity_fault(rows: usize, letters: usize, targets: &[u16], priorities: &[u8]) -> u8
     ensures { λ r. ⌜ r ≡ parityFault rows letters (now (targets .entry)) (now (priorities .entry)) ⌝ }
 {
@@ -62,8 +63,8 @@ fn larger(a: u8, b: u8) -> u8
     if a < b { b } else { a }
 }
 
-// Reads a piece from a row on, letter by letter, as far as the transitions lead. A letter's column of the table is found while the row
-// is still awaited.
+// Reads a piece from a row on, letter by letter, as far as the transitions lead. A letter's column of the table is computed while the row
+// is still being loaded.
 fn read_piece(
     rows: usize,
     letters: usize,
@@ -78,6 +79,7 @@ fn read_piece(
     let mut place = from;
     let mut peak = 0;
     let mut i = 0;
+    // the first i letters lead from row `from` to row `place`, and peak is the largest priority on the way
     while i < piece.len() {
         let letter = piece[i] as usize;
         let first = place * letters;
@@ -107,6 +109,7 @@ fn peak_of(peaks: &[u8]) -> u8
 {
     let mut peak = 0;
     let mut i = 0;
+    // peak is the largest of the first i priorities
     while i < peaks.len() {
         peak = larger(peak, peaks[i]);
         i += 1;
@@ -138,6 +141,7 @@ pub(crate) fn judge_word(
     let mut count = lead.len();
     let mut pass = 0;
     let mut first = 0;
+    // the lead-in and `pass` passes, count letters in all, lead to `place`; begun and peaks have these passes, and first is begun[place]
     while first == 0 {
         let reading = read_piece(rows, letters, targets, priorities, looped, place);
         if rows <= reading.place {

@@ -1,4 +1,4 @@
-// The run over a parity table with arrays of its own, in three sizes: to clear arrays for the most rows would take longer than a short word
+// The run over a parity table with local arrays of three sizes: clearing arrays for the most rows would take longer than a short word
 // on a table with fewer.
 use crate::Judged;
 use crate::parity::judge_word;
@@ -9,12 +9,12 @@ ghost use Rattle.rules.specs.Judges.{parityFault, wordFault, parityRun};
 ghost use Rattle.judge.specs.Judgements.{answerOf};
 ghost use Rattle.judge.specs.Sizes.{smallRows, middleRows};
 
-// The rows that the small arrays have room for, and the middle ones.
+// The rows for which the small arrays have room, and the middle ones.
 pub(crate) const SMALL_ROWS: usize = 64;
 
 pub(crate) const MIDDLE_ROWS: usize = 1024;
 
-// The answer to a word with nothing to refuse, over few rows.
+// The answer to a word with nothing to refuse, with the small arrays.
 pub(crate) fn judge_small(
     rows: usize,
     letters: usize,
@@ -40,7 +40,7 @@ pub(crate) fn judge_small(
     )
 }
 
-// The same over some rows.
+// The same with the middle ones.
 pub(crate) fn judge_middle(
     rows: usize,
     letters: usize,
@@ -66,7 +66,7 @@ pub(crate) fn judge_middle(
     )
 }
 
-// The same over as many rows as there may be.
+// The same with arrays for the most rows that a table can have.
 pub(crate) fn judge_large(
     rows: usize,
     letters: usize,

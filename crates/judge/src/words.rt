@@ -1,4 +1,4 @@
-// The refusals of a looped word, and their place behind the table's.
+// The refusals of a looped word, which come after the table's.
 use rules::limit::MAX_PIECE;
 use rules::refusal;
 ghost use mathlib.Core.Path.{_≡_};
@@ -7,12 +7,13 @@ ghost use Rattle.rules.specs.Basics.{firstOf};
 ghost use Rattle.rules.specs.Judges.{wordFault};
 ghost use Rattle.rules.specs.Runs.{strayLetter};
 
-// Some byte of a piece is no letter. The loop has no way out but its end, and no branch.
+// Some byte of a piece is no letter: no early exit and no branch.
 fn has_stray(m: u8, piece: &[u8]) -> bool
     ensures { λ r. ⌜ r ≡ strayLetter m (now (piece .entry)) ⌝ }
 {
     let mut stray = false;
     let mut i = 0;
+    // stray says whether one of the first i bytes is no letter
     while i < piece.len() {
         stray = stray | (m <= piece[i]);
         i += 1;
@@ -20,7 +21,7 @@ fn has_stray(m: u8, piece: &[u8]) -> bool
     stray
 }
 
-// The refusal of a word over m letters, 10 or 9, or 0 where the word is taken. A piece that is too long is not looked into.
+// The refusal of a word over m letters, 10 or 9, or 0 for none. A piece that is too long is not looked into.
 pub fn word_fault(m: u8, lead: &[u8], looped: &[u8]) -> u8
     ensures { λ r. ⌜ r ≡ wordFault m (now (lead .entry)) (now (looped .entry)) ⌝ }
 {
@@ -35,7 +36,7 @@ pub fn word_fault(m: u8, lead: &[u8], looped: &[u8]) -> u8
     0
 }
 
-// A number of letters as a byte, the largest byte where it is none: a parity table with so many is refused whatever the word is.
+// A number of letters as a byte, 255 where it is larger: a parity table with so many letters is refused whatever the word is.
 pub(crate) fn byte_of(letters: usize) -> u8
     ensures { λ r. ⌜ r ≡ min letters 255 ⌝ }
 {

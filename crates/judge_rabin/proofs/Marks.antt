@@ -1,6 +1,6 @@
--- A Rabin table that is taken: where its cells are, and when transitions satisfy it.
---     cell-placed          the sizes of the table, and a cell among all cells
---     union-satisfies      transitions satisfy the table unless each pair that one of them requires is prohibited by one of them
+-- A well-formed Rabin table: where its cells are, and when transitions satisfy it.
+--     cell-placed        the sizes of the table, and a cell among all cells
+--     union-satisfies    transitions satisfy the table unless each pair that one of them requires is prohibited by one of them
 use mathlib.Core.Path.{_≡_, _∙_}
 use mathlib.Core.Bool.{true, false, not, _&&_}
 use mathlib.Core.List.{List}

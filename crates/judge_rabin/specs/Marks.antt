@@ -1,5 +1,5 @@
 -- The marks of the transitions that a run over a Rabin table takes.
---     prohibitedMarks, requiredMarks  the marks of a transition of a Rabin table, bit i for pair i + 1
+--     prohibitedMarks, requiredMarks t x    numbers: the marks of a transition of a Rabin table, bit i for pair i + 1
 use Prim.Native.Nat.{ℕ}
 use Rattle.rules.specs.Runs.{Taken}
 use Rattle.rules.specs.Tables.{Table, prohibitedByte, requiredByte}

@@ -1,4 +1,4 @@
-// What the Rabin judge reads of a table that is taken: its sizes and its start, and of a cell the target and the marks. No other function of the
+// What the Rabin judge reads of a well-formed table: its sizes and its start, and of a cell the target and the marks. No other function of the
 // judge knows which byte says what.
 use rules::limit::HEADER_SIZE;
 use tables::mask_of;
@@ -23,8 +23,8 @@ pub(crate) fn start_of(table: &[u8]) -> usize
     table[3] as usize
 }
 
-// Where a state goes by a letter, no state where the transition is missing. Behind the state come one product and one read: the targets are cut
-// off the table first, once per loop, and a letter's column of them while the state is still awaited.
+// Where a state goes by a letter; no state where the transition is missing. Once the state is known, one product and one read follow: the targets
+// are sliced before, once per loop, and a letter's column of them while the state is still being loaded.
 pub(crate) fn target_of(table: &[u8], state: usize, letter: usize) -> usize
     requires { ⌜ WellFormed (now table) × (state < statesOf (now table)) × (letter < tableOf (now table) .letters) ⌝ }
     ensures { λ r. ⌜ r ≡ targetOf (tableOf (now (table .entry))) state letter ⌝ }
@@ -36,7 +36,7 @@ pub(crate) fn target_of(table: &[u8], state: usize, letter: usize) -> usize
     column[row] as usize
 }
 
-// Both sets of marks of that transition as one word, the required pairs above the prohibited ones.
+// Both sets of marks of that transition as one mask, the required pairs above the prohibited ones.
 pub(crate) fn marks_at(table: &[u8], state: usize, letter: usize) -> u16
     requires { ⌜ WellFormed (now table) × (state < statesOf (now table)) × (letter < tableOf (now table) .letters) ⌝ }
     ensures { λ r. ⌜ (r % 256 ≡ prohibitedByte (tableOf (now (table .entry))) state letter) × (r / 256 ≡ requiredByte (tableOf (now (table .entry))) state letter) ⌝ }

@@ -15,8 +15,8 @@ ghost use Rattle.judge.specs.Judgements.{answerOf};
 ghost use Rattle.judge.specs.Passes.{SumsUp, SumsUpOn, PieceSays, Blank};
 ghost use Rattle.judge_rabin.specs.Marks.{prohibitedMarks, requiredMarks};
 
-// Where reading a piece led, or no state where it met a missing transition; the letters read; of a piece read to its end the pairs met
-// as prohibited and as required.
+// Where reading a piece led, or no state where it met a missing transition; the letters read; of a piece read to its end the pairs
+// prohibited and the pairs required on the way.
 struct Reading {
     place: usize,
     read: usize,
@@ -24,7 +24,7 @@ struct Reading {
     required: u8,
 }
 
-// Reads a piece from a state on, letter by letter, as far as the transitions lead. Both sets of marks are met as one word.
+// Reads a piece from a state on, letter by letter, as far as the transitions lead. Both sets of marks are gathered as one mask.
 fn read_piece(table: &[u8], piece: &[u8], from: usize) -> Reading
     requires { ⌜ WellFormed (now table) × (strayLetter (tableOf (now table) .letters) (now piece) ≡ false) × (from < statesOf (now table)) ⌝ }
     ensures { λ r. ⌜ PieceSays (systemIn (now (table .entry))) from (now (piece .entry)) (r .place) (r .read) × SumsUpOn (systemIn (now (table .entry))) bit (prohibitedMarks (tableOf (now (table .entry)))) from (now (piece .entry)) (r .place) (r .prohibited) × SumsUpOn (systemIn (now (table .entry))) bit (requiredMarks (tableOf (now (table .entry)))) from (now (piece .entry)) (r .place) (r .required) ⌝ }
@@ -33,6 +33,7 @@ fn read_piece(table: &[u8], piece: &[u8], from: usize) -> Reading
     let mut place = from;
     let mut met = 0;
     let mut i = 0;
+    // the first i letters lead from state `from` to state `place`, and met is the union of the masks on the way
     while i < piece.len() {
         let letter = piece[i] as usize;
         let target = cells::target_of(table, place, letter);
@@ -64,6 +65,7 @@ fn union_of(sets: &[u8]) -> u8
 {
     let mut union = 0;
     let mut i = 0;
+    // union is the union of the first i sets
     while i < sets.len() {
         union = union | sets[i];
         i += 1;
@@ -72,7 +74,7 @@ fn union_of(sets: &[u8]) -> u8
 }
 
 // The answer to a word with nothing to refuse. `begun` has for each state one more than the number of the pass that began there, or
-// 0, and `prohibited` and `required` have for each pass the pairs that it meets.
+// 0, and `prohibited` and `required` have for each pass the pairs prohibited and required in it.
 pub(crate) fn judge_word(
     table: &[u8],
     lead: &[u8],
@@ -94,6 +96,7 @@ pub(crate) fn judge_word(
     let mut count = lead.len();
     let mut pass = 0;
     let mut first = 0;
+    // the lead-in and `pass` passes, count letters in all, lead to `place`; begun and both sets have these passes, and first is begun[place]
     while first == 0 {
         let reading = read_piece(table, looped, place);
         if n <= reading.place {

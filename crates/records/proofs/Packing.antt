@@ -1,22 +1,22 @@
--- Records as words: what a code keeps of an ordering, and a turn of each loop over the positions of a record.
---     AllPairs o               every element of o is the number of a pair that a place can hold
---     AllBelow o               every element of o is a number that a place can hold
---     packed-below             the code of at most n elements is below base ^ n
---     kept-below               the code of those elements behind a position that pass a test
---     inRear b v o             the code v after those elements of o that pass have gone into its last place, one after the other
---     rear-code, rear-below    what that code is, from nothing, and that it stays small
---     packed-append            the code of two lists, one behind the other
---     moved-joined, moved-small     the code after a move, from the words of its two parts, and its bound
---     places-length, places-at, places-below     how many places are read, what stands there, and that it is below base
---     position-within          a position that is not refused is one of the record
---     no-pair-at, pair-shifted, pair-below     the pair at a position: none, as a shift finds it, and below base
---     rising-at, rising-below  the numbers from 1 on
---     places-packed, pairs-packed, packed-small     the code of an ordering holds it, and nothing else
---     moved-packed, priority-packed     a move and a priority are the same for the places of that code
---     marked-shifted, marked-masked      a pair is in a set, as a shift finds it, and as a code with its bit alone
---     from-here, from-before   what stands from a position on, and from the place before it
---     kept-turn, rear-turn, decided-turn, digit-turn     a turn at one position
---     digit-below              a number with one digit more stays below the next power of ten
+-- Records as codes: what a code keeps of an ordering, and a turn of each loop over the positions of a record.
+--     AllPairs o                       every element of o is the number of a pair that a place can hold
+--     AllBelow o                       every element of o is a number that a place can hold
+--     packed-below                     the code of at most n elements is below base ^ n
+--     kept-below                       the code of those elements past a position that pass a test
+--     inRear b v o                     the code v after those elements of o that pass have gone into its last place, one after the other
+--     rear-code, rear-below            what that code is, from nothing, and that it stays small
+--     packed-append                    the code of two lists, one after the other
+--     moved-joined, moved-small        the code after a move, from the codes of its two parts, and its bound
+--     places-length, places-at, places-below    how many places are read, what they hold, and that it is below base
+--     position-within                  a position that is not refused is one of the record
+--     no-pair-at, pair-shifted, pair-below    the pair at a position: none, as a shift finds it, and below base
+--     rising-at, rising-below          the numbers from 1 on
+--     places-packed, pairs-packed, packed-small    the code of an ordering holds it, and nothing else
+--     moved-packed, priority-packed    a move and a priority are the same for the places of that code
+--     marked-shifted, marked-masked    a pair is in a set, as a shift finds it, and as a mask with its bit alone
+--     from-here, from-before           the places from a position on, and from the one before it
+--     kept-turn, rear-turn, decided-turn, digit-turn    a turn at one position
+--     digit-below                      a number with one digit more stays below the next power of ten
 use mathlib.Core.Path.{_≡_, refl, sym, ap, _∙_}
 use mathlib.Core.Bool.{Bool, true, false, not, _&&_, _||_, false≢true}
 use mathlib.Core.List.{List, [], _∷_, _++_, append-nil, append-assoc}
@@ -71,7 +71,7 @@ packed-below (i ∷ o) (suc n) all l =
     rw (pow-suc 8 n)
     (omega (arith, all i (first-in i o), packed-below o n (λ j h. all j (or-right (eqb j i) (isIn j o) h)) (omega arith)))
 
--- behind position p at most n pairs stand
+-- past position p there are at most n pairs
 pub kept-below : (b : ℕ → Bool) (o : List ℕ) (p n : ℕ) → length o ≤ p + n → AllBelow o → packed (keep b (drop p o)) < base ^ n
 kept-below b o p n few all =
     packed-below (keep b (drop p o)) n (λ i h. drop-below p o all i (kept-in b i (drop p o) h)) (omega (arith, kept-length b (drop p o), length-drop p o))
@@ -289,12 +289,12 @@ module _ (o : List ℕ) (p i : ℕ) (within : p ≤ length o) (here : i ≡ getD
   pub from-before : (k : ℕ) → suc k ≡ p → drop k o ≡ i ∷ drop p o
   from-before k before = ap (λ (j : ℕ). drop j (0 ∷ o)) before ∙ from-here
 
-  -- backwards: the code of those that pass behind p, and the code with the pair in front
+  -- backwards: the code of those that pass past position p, and the code with the pair in front
   pub kept-turn : (b : ℕ → Bool) (goes : Bool) → goes ≡ b i → (v w k : ℕ) → suc k ≡ p
       → v ≡ packed (keep b (drop p o)) → w ≡ pick goes (i + base * v) v → w ≡ packed (keep b (drop k o))
   kept-turn b goes tested v w k before e f = f ∙ rw (from-before k before, e, tested) (by (b i) (λ t. rw t) (λ t. rw t))
 
-  -- forwards: what is still to be found behind p, and from p on
+  -- forwards: what is still to be found past position p, and from p on
   pub decided-turn : (m : Marks) (odd even : Bool) → odd ≡ m .prohibited i → even ≡ m .required i
       → (v w : ℕ) → w ≡ pick odd (suc (2 * p)) (pick even (2 * p) v) → priorityFrom (suc p) m (drop p o) w ≡ priorityFrom p m (drop p (0 ∷ o)) v
   decided-turn m odd even o-is e-is v w f = let decided : w ≡ priorityWith p m i v = f ∙ rw (o-is, e-is) in ap (priorityFrom (suc p) m (drop p o)) decided ∙ rw from-here

@@ -1,13 +1,13 @@
--- Records as words: an ordering of pairs with three bits a place.
---     limit                the most pairs that a record holds
---     base                 one more than the largest number that a place can hold
---     isMarked set i       pair i is in the set: bit i - 1 is set; 0 is no pair
---     isPair i             i is the number of a pair
---     marksBy p r          the marks whose prohibited pairs are the set p and whose required pairs are the set r
---     packed o             the code whose places hold o, the first pair lowest
---     placesOf n w         the first n places of a code
---     places w             the places of a record's code
---     pairsIn w            the ordering that a record's code holds: its places that are used
+-- Records as codes: an ordering of pairs with three bits for each place.
+--     limit             the most pairs that a record holds
+--     base              one more than the largest number that a place can hold
+--     isPair i          test: i is the number of a pair
+--     isMarked set i    test: pair i is in the set: bit i - 1 is set; 0 is no pair
+--     marksBy p r       the marks whose prohibited pairs are the set p and whose required pairs are the set r
+--     packed o          number: the code whose places hold o, the first pair lowest
+--     placesOf n w      list: the first n places of a code
+--     places w          list: the places of a record's code
+--     pairsIn w         list: the ordering that a record's code holds: its places that are used
 use mathlib.Core.Bool.{Bool, not, _&&_}
 use mathlib.Core.List.{List, [], _∷_}
 use Prim.Native.Nat.{ℕ, zero, suc, _+_, _-_, _*_, _/_, _%_}

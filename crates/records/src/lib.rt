@@ -1,4 +1,4 @@
-// Index appearance records by value: an ordering of pairs in one code, three bits a place, places that are not used being 0.
+// Index appearance records by value: an ordering of pairs as one code, three bits for each place, 0 in a place that is not used.
 // It rests on `rules`. Every method takes any record and any byte and states its whole result, by the definitions of the rules
 // over the record's places.
 ghost use mathlib.Core.Path.{_≡_};
@@ -43,6 +43,7 @@ impl Record {
     {
         let mut code = 0;
         let mut i = Record::LIMIT;
+        // code has the pairs of the set above i, rising
         while 0 < i {
             code = with_pair(code, PairNumber(i), PairNumber(i).is_in(mask));
             i -= 1;
@@ -69,6 +70,7 @@ impl Record {
     {
         let mut best = 1;
         let mut p = 1;
+        // best is the priority by the positions below p
         while p <= Record::LIMIT {
             let pair = self.pair_at(Position(p));
             let odd = pair.is_in(prohibited);
@@ -94,6 +96,7 @@ impl Record {
     {
         let mut code = 0;
         let mut p = Record::LIMIT;
+        // code has the pairs of the set at the positions above p
         while 0 < p {
             let pair = self.pair_at(Position(p));
             code = with_pair(code, pair, pair.is_in(mask));
@@ -102,12 +105,13 @@ impl Record {
         code
     }
 
-    // The code of the places that are not of the set, up to the last place.
+    // The code of the pairs that are not in the set, moved up to the last place.
     fn rear(self, mask: u8) -> u32
         ensures { λ r. ⌜ r ≡ base ^ length (keep (isMarked mask) (places (self .code))) * packed (keep (λ i. not (isMarked mask i)) (places (self .code))) ⌝ }
     {
         let mut code = 0;
         let mut p = 1;
+        // the last places of code have the pairs at the positions below p that are not in the set
         while p <= Record::LIMIT {
             let pair = self.pair_at(Position(p));
             code = with_last(code, pair, !pair.is_in(mask));
@@ -116,12 +120,13 @@ impl Record {
         code
     }
 
-    // The pair numbers read as one decimal number; 0 where there is none.
+    // The pair numbers read as one decimal number; 0 where there are none.
     pub fn number(self) -> u32
         ensures { λ r. ⌜ r ≡ decimal (pairsIn (self .code)) ⌝ }
     {
         let mut number = 0;
         let mut p = 1;
+        // number is that of the pairs at the positions below p
         while p <= Record::LIMIT {
             number = with_digit(number, self.pair_at(Position(p)));
             p += 1;
@@ -161,7 +166,7 @@ fn with_last(code: u32, pair: PairNumber, goes: bool) -> u32
     }
 }
 
-// The number with one digit more, where the pair is one.
+// The number with the pair as one more digit; the number itself for no pair.
 fn with_digit(number: u32, pair: PairNumber) -> u32
     requires { ⌜ (number < 16777216) × (pair .0 < base) ⌝ }
     ensures { λ r. ⌜ r ≡ pick (isPair (pair .0)) (10 * number + pair .0) number ⌝ }

@@ -1,8 +1,8 @@
 -- From closed walks to looped words, with no record in it: two transition systems, one projected onto the other.
---     Projects P S f       f takes each state of P to a state of S: the same transitions are there, and f goes along with them
---     path-projects, stop-projects     paths and stops of P project to those of S
---     words-agree          if two conditions agree on every closed walk and its projection, and look at the set of transitions alone,
---                          then the two judgements of every looped word are the same, the count of a stop included
+--     Projects P S f                  f takes each state of P to a state of S: the same transitions are there, and f commutes with them
+--     path-projects, stop-projects    paths and stops of P project to those of S
+--     words-agree                     if two conditions agree on every closed walk and its projection, and look at the set of transitions alone, then
+--                                     the two judgements of every looped word are the same, the count of a stop included
 use mathlib.Core.Path.{_≡_, refl, sym, ap, _∙_}
 use mathlib.Core.Logic.{⊎-elim}
 use mathlib.Core.Bool.{Bool, false}

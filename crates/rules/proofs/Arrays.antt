@@ -1,12 +1,12 @@
--- What stands where in an array that joins one list for each row, with whatever stands behind it.
---     getD-any                         below the length the default is not looked at
---     tabulate-length, tabulate-at, tabulate-last, tabulate-same     a tabulated list
---     cell-before, cell-same, cell-split     a place is the cell of one row and one letter only
+-- The entries of an array that joins one list for each row, whatever entries follow.
+--     getD-any                              below the length the default is not looked at
+--     tabulate-length, tabulate-at, tabulate-last, tabulate-same    a tabulated list
+--     cell-before, cell-same, cell-split    a place is the cell of one row and one letter only
 --     cell-within, row-within, row-ends     a cell, the cells before a row and those of a row are among the cells of all rows
---     joined-length, joined-at         lists of one length, joined: the cell of row i and letter a is number i · m + a
---     cells-length, cells-at           one number for each letter of each row, joined
---     tabulate-none, joined-none       where nothing passes a test, in each place or in each list
---     mapped-at                        one number for each row
+--     joined-length, joined-at              lists of one length, joined: the cell of row i and letter a is number i · m + a
+--     cells-length, cells-at                one number for each letter of each row, joined
+--     tabulate-none, joined-none            where nothing passes a test, in each place or in each list
+--     mapped-at                             one number for each row
 use mathlib.Core.Path.{_≡_, refl, sym, ap, _∙_}
 use mathlib.Core.Bool.{Bool, false}
 use mathlib.Core.List.{List, [], _∷_, _++_, append-assoc, map}

@@ -1,12 +1,12 @@
--- Sets of numbers as bits of words.
---     bit-or, bit-and    the bits of two words together, and those that both have
---     bit-one            the bits of a word with one bit
---     bit-masked         a bit, as a word with that bit alone finds it
---     bit-none, bit-over      no bit of 0 is set, nor one above a word
---     one-shifted        a word with one bit, as a shift makes it
---     as-bits-below, as-bits-at     the number whose bits pass a test, and its bits
---     bits-determine, bits-are      numbers with the same bits are equal
---     both-below         two bytes, as one word, have no bit from j on: both are below 2 ^ j
+-- Sets of numbers as the bits of a number.
+--     bit-or, bit-and              the bits of two numbers together, and those that both have
+--     bit-one                      the bits of a number with one bit
+--     bit-masked                   a bit, as a mask with that bit alone finds it
+--     bit-none, bit-over           no bit of 0 is set, nor one above a number
+--     one-shifted                  a number with one bit, as a shift makes it
+--     as-bits-below, as-bits-at    the number whose bits pass a test, and its bits
+--     bits-determine, bits-are     numbers with the same bits are equal
+--     both-below                   two bytes, as one mask, have no bit from j on: both are below 2 ^ j
 use mathlib.Core.Path.{_≡_, refl, sym, ap, _∙_}
 use mathlib.Core.Bool.{Bool, true, false, not, _&&_, _||_}
 use Prim.Native.Nat.{ℕ, zero, suc, _+_, _-_, _*_, _/_, _%_, _^_, max, min, _<_, _≤_}
@@ -69,7 +69,7 @@ bit-one q j =
     (λ e. rw (e, ← eqb-true q j e) (bit-same q))
     (λ e. let d = eqb-false q j e in by (ltb q j) (λ l. rw e (bit-above q j (ltb-true q j l))) (λ l. let g = ltb-false q j l in rw e (bit-below q j (omega arith))))
 
--- the word with one bit, as a shift makes it
+-- the number with one bit, as a shift makes it
 pub one-shifted : (w q : ℕ) → q < w → 1 * 2 ^ q % 2 ^ w ≡ 2 ^ q
 one-shifted w q l = shl-exact 1 q w (lit< tt) (omega arith) ∙ one-mul (2 ^ q)
 
@@ -136,7 +136,7 @@ bits-determine (suc k) v w lv lw h =
 pub bits-are : (k v : ℕ) (b : ℕ → Bool) → v < 2 ^ k → ((j : ℕ) → j < k → bit j v ≡ b j) → v ≡ asBits k b
 bits-are k v b l h = bits-determine k v (asBits k b) l (as-bits-below b k) (λ j i. h j i ∙ sym (as-bits-at b k j i))
 
--- a bit, as the word that has it alone finds it
+-- a bit, as the mask that has it alone finds it
 pub bit-masked : (q v : ℕ) → not (eqb (bitAnd v (2 ^ q)) 0) ≡ bit q v
 bit-masked q v =
     by
@@ -155,7 +155,7 @@ bit-masked q v =
         masked j
         ∙ by (eqb q j) (λ h. rw (h, ← eqb-true q j h, e, bit-none q)) (λ h. rw (h, bit-none j) (by (bit j v) (λ g. rw g) (λ g. rw g)))
 
--- two bytes as one word: what is left of it by the bits from j on, in both
+-- two bytes as one mask: what is left of it by the bits from j on, in both
 high-none : (d j n : ℕ) → n < 2 ^ (d + j) → eqb (bitAnd n (2 ^ (d + j) - 2 ^ j)) 0 ≡ ltb n (2 ^ j)
 high-none d j n l =
     rw (and-high n d j, shr-mod d j l)

@@ -1,9 +1,9 @@
 -- Case work on tests.
---     by b f g           the two cases of a test, each with its equation
---     clash              a test that holds and fails proves anything
---     or-cases, or-left, or-right, or-none     a disjunction taken apart, made, and refuted
---     and-both, and-parts     a conjunction made and taken apart
---     bool-ext           two tests that imply one another are equal
+--     by b f g               the two cases of a test, each with its equation
+--     clash                  a test that holds and fails proves anything
+--     or-cases, or-left, or-right, or-none    a disjunction taken apart, made, and refuted
+--     and-both, and-parts    a conjunction made and taken apart
+--     bool-ext               two tests that imply one another are equal
 use mathlib.Core.Path.{_≡_, refl, sym, _∙_}
 use mathlib.Core.Bool.{Bool, true, false, _&&_, _||_, true≢false}
 

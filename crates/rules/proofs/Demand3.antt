@@ -1,13 +1,13 @@
 -- Demand 3 for every lawful construction, proved once.
 -- A system s with a keeper k that is lawful for a condition is explored from a start within a capacity that is not exceeded. The table
--- of rows, with whatever stands behind them in the arrays, is a system that projects onto s; on a closed walk every transition is
+-- of rows, whatever the entries past them in the arrays, is a system that projects onto s; on a closed walk every transition is
 -- inside, so the memory is carried along it and the largest priority is the keeper's; so closed walks agree, and with them words.
---     reached-fits     every reachable row stands at a state, with a memory that fits it
---     target-at, priority-at, source-at     what the arrays hold for a row and a letter
---     projects         the table of rows projects onto s
---     walk-carried     along a closed walk the rows carry the keeper's memory and priorities
---     paths-agree, walks-agree, looped-words-agree, judges-agree     closed paths, closed walks, looped words and judges agree
---     demand-3         all of it
+--     reached-fits                         every reachable row has a state, and a memory that fits it
+--     target-at, priority-at, source-at    what the arrays hold for a row and a letter
+--     projects                             the table of rows projects onto s
+--     walk-carried                         along a closed walk the rows carry the keeper's memory and priorities
+--     paths-agree, walks-agree, looped-words-agree, judges-agree    closed paths, closed walks, looped words and judges agree
+--     demand-3                             all of it
 use mathlib.Core.Path.{_≡_, refl, sym, ap, ap₂, _∙_}
 use mathlib.Core.Bool.{Bool, true, false, not, _||_}
 use mathlib.Core.List.{List, [], _∷_, _++_}
@@ -86,7 +86,7 @@ module _
       rows-fit : (i : ℕ) → i < length rs → (at i .source < s .states) × Fits (at i .source) (at i .memory)
       rows-fit i l = reached-fits (found .reached i l)
 
-      -- ---- the arrays, with whatever stands behind the rows
+      -- ---- the arrays, whatever the entries past the rows
       module _ (za zb zd : List ℕ) where
         abbrev ts : List ℕ
         ts = allTargets g noRow rs ++ za

@@ -1,11 +1,11 @@
 -- What the exploration finds, over any plan whose sameness of rows is equality.
---     place-*        the place of the first element that passes a test
---     Found          what holds of the rows found at a moment of the exploration
---     found-with      one transition more keeps it
---     with-longer, with-row, by-next, by-grows     what a transition, and letters, leave of the rows found
---     from-on, from-stop     a row more is read, or none
---     explored       at the end all rows have been read, unless there are too many
---     rows-view      the rows found are exactly the reachable ones, each once, in order of discovery; full exactly if more than c are reachable
+--     place-found, place-least, place-most, place-append, place-added, place-same    the place of the first element that passes a test
+--     Found                 what holds of the rows found at a moment of the exploration
+--     found-with            one transition more keeps it
+--     with-longer, with-row, by-next, by-grows    what a transition, and letters, leave of the rows found
+--     from-on, from-stop    a row more is read, or none
+--     explored              at the end all rows have been read, unless there are too many
+--     rows-view             the rows found are the reachable ones, each once, in order of discovery; full exactly if more than c are reachable
 use mathlib.Core.Path.{_≡_, refl, sym, ap, _∙_, subst}
 use mathlib.Core.Logic.{_↔_, _⊎_, inl, inr, ⊎-elim}
 use mathlib.Core.Bool.{Bool, true, false, _&&_}

@@ -1,16 +1,16 @@
 -- Arrays that are written place by place from the front.
---     Filled P old new p     below p each value of new is as P says, from p on new is as old
---     filled-none, filled-more     nothing is written yet; one place more
---     over-front, over-rest, over-length, over-is     an array with other contents at its front, place by place
---     over-at                the same where each place has a value of its own
---     filled-over            what a filled array is, where P gives each value
---     zeros-at               a cleared array
---     beyond-none, beyond-set, beyond-then, beyond-wider     what stays behind the part that is written: nothing is written, one place is, one
---                            writing after another, and behind more
---     over-beyond            the same of an array with other contents at its front
---     cells-over, front-over an array with a number for each letter of each row at its front, or with what its first places are
---     cleared-none, cleared-more     nothing is cleared yet; one place more
---     padded-is, cleared-is, filled-is     an array with contents at its front and zeros behind them
+--     Filled P old new p                  below p each value of new is as P says, from p on new is as old
+--     filled-none, filled-more            nothing is written yet; one place more
+--     over-front, over-rest, over-length, over-is    an array with other contents at its front, place by place
+--     over-at                             the same where each place has a value of its own
+--     filled-over                         what a filled array is, where P gives each value
+--     zeros-at                            a cleared array
+--     beyond-none, beyond-set, beyond-then, beyond-wider    what stays past the part that is written: nothing is written, one place is, one writing
+--                                         after another, and past more
+--     over-beyond                         the same of an array with other contents at its front
+--     cells-over, front-over              an array with a number for each letter of each row at its front, or with what its first places are
+--     cleared-none, cleared-more          nothing is cleared yet; one place more
+--     padded-is, cleared-is, filled-is    an array with contents at its front and zeros after them
 use mathlib.Core.Path.{_≡_, refl, sym, ap, _∙_}
 use mathlib.Core.List.{List, [], _∷_, _++_, append-nil}
 use Prim.Native.Nat.{ℕ, zero, suc, _+_, _-_, _*_, _<_, _≤_}
@@ -84,7 +84,7 @@ zeros-at zero i = refl
 zeros-at (suc n) zero = refl
 zeros-at (suc n) (suc i) = zeros-at n i
 
--- ---- what stays behind the part that is written
+-- ---- what stays past the part that is written
 pub beyond-none : (k : ℕ) (xs : List ℕ) → Beyond k xs xs
 beyond-none k xs = record { size = refl; same = λ i l. refl }
 
@@ -97,7 +97,7 @@ beyond-then p q = record { size = q .size ∙ p .size; same = λ i l. q .same i 
 pub beyond-wider : {k n : ℕ} {xs ys : List ℕ} → k ≤ n → Beyond k xs ys → Beyond n xs ys
 beyond-wider l p = record { size = p .size; same = λ i b. p .same i (omega arith) }
 
--- an array with other contents at its front keeps what is behind them
+-- an array with other contents at its front keeps the entries past them
 pub over-beyond : {k : ℕ} {old mid : List ℕ} (xs : List ℕ) → mid ≡ over xs old → length xs ≤ k → k ≤ length old → Beyond k old mid
 over-beyond {k} {old} {mid} xs e few room =
     rw e (record { size = over-length xs old (omega arith); same = λ i l. over-rest xs old i (omega arith) })

@@ -1,8 +1,8 @@
--- The answer to a looped word, from what is met in reading it as far as a repetition that begins where an earlier one began; for any
+-- The answer to a looped word, from the transitions taken in reading it as far as a repetition that begins where an earlier one began; for any
 -- transition system and any condition.
---     judged-endless, judged-missing     a run that never stops; one that meets a missing transition
---     judged-lead, judged-pass     a missing transition in the lead-in, or after some whole repetitions
---     judged-round                 a repetition that begins where an earlier one began: the repetitions between decide
+--     judged-endless, judged-missing    a run that never stops; one that meets a missing transition
+--     judged-lead, judged-pass          a missing transition in the lead-in, or after some whole repetitions
+--     judged-round                      a repetition that begins where an earlier one began: the repetitions between decide
 use mathlib.Core.Path.{_≡_, refl, sym, ap, _∙_}
 use mathlib.Core.Bool.{Bool, false}
 use mathlib.Core.List.{List, _++_, append-nil}

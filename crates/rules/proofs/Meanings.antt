@@ -1,9 +1,9 @@
 -- What the results of the public calls mean: the equalities of `Says` in terms of paths, reachable rows, orderings, missing and recurring transitions.
---     components-are, components-over, components-mean     the numbers of components, and an array that holds them
---     step-is                              what a row of a Rabin table does by a letter, whole
---     translation-means                    the rows, their steps, their records and fullness
---     judged-as                            the answer to a looped word, for any system and any condition
---     rabin-means, parity-means            the answers of both judges
+--     components-are, components-over, components-mean    the numbers of components, and an array that holds them
+--     step-is                      what a row of a Rabin table does by a letter, whole
+--     translation-means            the rows, their steps, their records and fullness
+--     judged-as                    the answer to a looped word, for any system and any condition
+--     rabin-means, parity-means    the answers of both judges
 use mathlib.Core.Path.{_≡_, refl, sym, ap, _∙_}
 use mathlib.Core.Logic.{_↔_}
 use mathlib.Core.Bool.{Bool, true, false, false≢true, true≢false}

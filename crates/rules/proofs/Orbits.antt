@@ -1,8 +1,9 @@
--- A number that is taken on by one function again and again: what comes back, and when.
---     iter-shift, iter-add     taken on once more at either end; r and then k times
---     round-later         what d times lead back to, they lead back to from there on
---     Recur               for every r, what passes the test c comes after r or more times
---     window              if d times lead back, any w ≥ d times on from there show exactly what recurs
+-- One function applied to a number again and again: what comes back, and when.
+--     iter-shift, iter-add       applied once more at either end; r and then k times
+--     round-later                what d times lead back to, they lead back to from there on
+--     comes-from, comes-again    from there on each number is one of the first d, and comes again
+--     Recur                      for every r, what passes the test c comes after r or more times
+--     window                     if d times lead back, any w ≥ d times on from there show exactly what recurs
 use mathlib.Core.Path.{_≡_, refl, sym, ap, _∙_}
 use mathlib.Core.Logic.{_↔_}
 use mathlib.Core.Bool.{Bool, true}

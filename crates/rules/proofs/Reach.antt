@@ -1,13 +1,14 @@
 -- Reach and components, for any number of states.
---     via-link, via-join, via-least     Warshall's closure holds the links, is closed under joining at a state below k, and is the least such
---     path-append                       paths join
---     reaches-view                      p reaches q exactly if a path leads from p to q
---     together-view                     two states share a component exactly if a path leads from each to the other
---     together-refl, together-sym, together-trans     sharing a component is an equivalence
---     component-together, component-least, component-same     componentOf is the smallest state of the component, and the same for all of it
---     together-component, inside-component, within-component     what shares a component, is inside and is met, by the numbers of components alone
---     inside-of-return                  a transition with a way back is inside
---     within-view, within-same                what some inside transition of a component meets, and that it is the same for the whole component
+--     via-link, via-join, via-least       Warshall's closure holds the links, is closed under joining at a state below k, and is the least such
+--     path-append                         paths join
+--     path-reaches, reaches-view          p reaches q exactly if a path leads from p to q
+--     together-view                       two states share a component exactly if a path leads from each to the other
+--     together-refl, together-sym, together-trans    sharing a component is an equivalence
+--     component-together, component-least, component-same    componentOf is the smallest state of the component, and the same for all of it
+--     together-component, inside-component, within-component    what shares a component, what is inside and which tests that passes, by the numbers
+--                                         of components alone
+--     inside-parts, inside-of-return      what an inside transition is; one with a way back is inside
+--     Within, within-view, within-same    a test that some inside transition of a component passes, the same for the whole component
 use mathlib.Core.Path.{_≡_, refl, sym}
 use mathlib.Core.Logic.{_↔_}
 use mathlib.Core.Bool.{Bool, true, _&&_}
@@ -133,7 +134,7 @@ module _ (s : System) where
       below : (x y : ℕ) → y < s .states → together s x y ≡ true → componentOf s x ≤ componentOf s y
       below x y l h = component-least x (componentOf s y) (together-trans x y (componentOf s y) h (component-together y l))
 
-  -- the number of a component decides what is inside and what is met
+  -- the number of a component decides what is inside and which tests that passes
   pub together-component : (p q : ℕ) → p < s .states → q < s .states → together s p q ≡ eqb (componentOf s q) (componentOf s p)
   together-component p q lp lq =
       bool-ext (together s p q) (eqb (componentOf s q) (componentOf s p)) (λ h. eq-eqb _ _ (sym (component-same p q lp lq .0 h)))

@@ -1,17 +1,20 @@
 -- What a run over a looped word means: when it stops, and which transitions recur; for any transition system.
---     path-split, path-end, path-below     a path taken apart; where it ends
---     goes-path, goes-stop, goes-view      reading a word either follows a path or meets a missing transition
---     stop-after                           a path, and behind it a missing transition
---     stops-view                           the longRun run stopped after i letters exactly if the word's run meets a missing
---                                          transition after i letters
---     Steady                               a run that never stops: it reads the loop again and again, and some repetition begins
---                                          where an earlier one began
---     steady-from                          two repetitions that begin at the same state: it never stops
---     steady                               not stopped after as many repetitions as there are states: never
---     endless-window                       from a repetition that begins where it begins again d later, d repetitions or more take
---                                          exactly the recurring transitions
---     recurs-view                          a transition is among the recurring ones exactly if for every r it is taken in some
---                                          repetition after the r-th
+--     repeated-add, repeated-more, repeated-length, repeated-letters    a list repeated
+--     path-split, path-end, path-below    a path taken apart; where it ends
+--     goes-path, goes-stop, goes-view    reading a word either follows a path or meets a missing transition
+--     path-or-stop, pass-append    not both; the transitions of two words, joined
+--     stop-after        a path, then a missing transition
+--     stops-view        the long run stopped after i letters exactly if the word's run meets a missing transition after i letters
+--     Steady            a run that never stops: it reads the loop again and again, and some repetition begins where an earlier one began
+--     path-turns, turns-path, turns-below, round-back    the repetitions of the loop along a path
+--     steady-from       two repetitions that begin at the same state: it never stops
+--     steady            not stopped after as many repetitions as there are states: never
+--     steady-path, steady-later    such a run, from its start or from later on
+--     takes, takes-recurring    the repetitions that take a transition which passes a test
+--     Endless, endless-path, endless-run, endless-meets-none    the same for a whole word, lead-in and loop
+--     run-view          a word either has such a run or stops
+--     endless-window    from a repetition that begins where it begins again d later, d repetitions or more take exactly the recurring transitions
+--     recurs-view       a transition is among the recurring ones exactly if for every r it is taken in some repetition after the r-th
 use mathlib.Core.Path.{_≡_, refl, sym, ap, _∙_, subst}
 use mathlib.Core.Logic.{_↔_, _⊎_, inl, inr, ⊎-elim}
 use mathlib.Core.Bool.{Bool, true, false, _||_, true≢false, false≢true}
@@ -86,7 +89,7 @@ module _ (s : System) where
       halted =
           rw (le-leb (s .states) (s .go (x .place) (x .next)) (x .absent)) (goes-stopped (x .later) (x .place) (length (x .before) + n))
 
-  -- a path, and behind it a missing transition
+  -- a path, then a missing transition
   unfoldable pub stop-after : (u : List ℕ) {p q : ℕ} {w : List ℕ} → Path s p u q → Stop s q w → Stop s p (u ++ w)
   stop-after u a x =
       record {

@@ -1,14 +1,14 @@
 -- Lists as sets of what passes a test, numbers below a bound, the largest of a set.
---     any-append, any-map          tests over a joined and a mapped list
---     any-fails                    a test that nothing passes
---     none-at, fails-at            a test that no place of a list passes
---     any-turn, any-end            a test over a list that is gone through from the front
---     any-find, any-intro, any-none     a test over a list of numbers, by its elements
---     below-find, below-intro, below-same     a test over the numbers below a bound
---     apart                        a test that tells two numbers apart
---     least-passes, least-least    the first number that passes a test
---     largest-over, largest-under, largest-same     the largest of a set, from both sides; it depends on the set alone
---     largest-is                   the number that is above n exactly if some member of the set is
+--     any-append, any-map              tests over a joined and a mapped list
+--     any-fails                        a test that nothing passes
+--     none-at, fails-at                a test that no place of a list passes
+--     any-turn, any-end                a test over a list that is gone through from the front
+--     any-find, any-intro, any-none    a test over a list of numbers, by its elements
+--     below-find, below-intro, below-same    a test over the numbers below a bound
+--     apart                            a test that distinguishes two numbers
+--     least-passes, least-least        the first number that passes a test
+--     largest-over, largest-under, largest-same    the largest of a set, from both sides; it depends on the set alone
+--     largest-is                       the number that is above n exactly if some member of the set is
 use mathlib.Core.Path.{_≡_, refl, sym, ap, _∙_}
 use mathlib.Core.Bool.{Bool, true, false, _||_, or-assoc, or-false, false≢true}
 use mathlib.Core.List.{List, [], _∷_, _++_, map}
@@ -95,7 +95,7 @@ least-hit f i b e = rw (e, least)
 least-miss : (f i : ℕ) (b : ℕ → Bool) → b i ≡ false → least (suc f) i b ≡ least f (suc i) b
 least-miss f i b e = rw (e, least)
 
--- what tells two numbers apart
+-- what distinguishes two numbers
 pub apart : (b : ℕ → Bool) {i j : ℕ} → b i ≡ false → b j ≡ true → i ≡ j → ⊥
 apart b p q e = clash q (rw e at p)
 

@@ -1,6 +1,6 @@
 -- Closed walks, for any transition system.
---     ClosedPath, closed-path     a closed walk is what some letters take on a path that leads back
---     closed-within                  what some transition of a closed walk meets, some inside transition of its component meets
+--     ClosedPath, closed-path    a closed walk is what some letters take on a path that leads back
+--     closed-within              a test that some transition of a closed walk passes, some inside transition of its component passes
 use mathlib.Core.Path.{_≡_, refl, ap, subst}
 use mathlib.Core.Bool.{Bool, true, _&&_, false≢true}
 use mathlib.Core.List.{List, [], _∷_, _++_}

@@ -1,11 +1,10 @@
 -- A judge's answer to a looped word, over any transition system and any condition on its recurring transitions.
---     Answer                     document 01's number and value: 0 accepts, 1 rejects, 2 stops with the letters read, 3 refused with the
---                                refusal's number
---     accepts, rejects, stops n, refused n     the four answers
---     judgedBy s q lead l good   stops, or accepts exactly if the recurring transitions are good
---     Verdict s q lead l good x      x is what the recurring transitions decide: those taken in some repetition after the r-th for every r
---     JudgedAs s q lead l good x     x is the answer: stops exactly if the run meets a missing transition, else that verdict
---     unlessRefused f x          the answer x, unless there is a refusal f
+--     Answer                        two numbers, our own: 0 accepts, 1 rejects, 2 stops with the letters read, 3 refused with its number
+--     accepts, rejects, stops n, refused n    the four answers
+--     judgedBy s q lead l good      answer: stops, or accepts exactly if the recurring transitions are good
+--     Verdict s q lead l good x     claim: x is what the recurring transitions decide, those for which `Recurs` holds
+--     JudgedAs s q lead l good x    claim: x is the answer: stops exactly if the run meets a missing transition, else that verdict
+--     unlessRefused f x             answer: x, unless there is a refusal f
 use mathlib.Core.Path.{_≡_}
 use mathlib.Core.Logic.{_↔_}
 use mathlib.Core.Bool.{Bool, true}

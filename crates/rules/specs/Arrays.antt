@@ -1,6 +1,6 @@
 -- What a function leaves in a lent array, place by place.
---     Beyond k old new         from place k on new is as old
---     Cleared i k old new      from place i up to k new is 0, elsewhere it is as old
+--     Beyond k old new       claim: from place k on new is as old
+--     Cleared i k old new    claim: from place i up to k new is 0, elsewhere it is as old
 use mathlib.Core.Path.{_≡_}
 use mathlib.Core.List.{List}
 use Prim.Native.Nat.{ℕ, _<_, _≤_}

@@ -1,23 +1,23 @@
 -- Choices, tests over lists and numbers, tabulated lists. Nothing here knows automata.
 --     pick b x y         x where b holds, else y
---     firstOf a b        the first number that is not 0: refusals in their order
---     when b n           n where b holds, else 0
---     any b xs           some element of xs passes the test b
---     SameSet xs ys      xs and ys hold the same elements: every test passes in both or in neither
---     anyBelow n b       some number below n passes the test b
---     isIn x xs          x stands in xs
---     occurs x xs        how often x stands in xs
---     keep b xs          the elements that pass the test b, in their order
---     least f i b        the first of i, i + 1 .. that passes b, looked for f times
---     tabulate f i g     g i, g (i + 1) .., f of them
---     joined g xs        the lists g x for each x of xs, one after the other
---     repeated n xs      xs, n times over
---     iter f n p         p, taken on n times by f
---     largest g xs       the largest g x, 0 if there is none
---     isEven n           n is even
---     bit i v            bit i of v is set, counted from 0
---     asBits k b         the number whose bits are the numbers below k that pass the test b
---     SameBelow n r t    the relations r and t are the same on the numbers below n
+--     firstOf a b        number: the first of the two that is not 0: refusals in their order
+--     when b n           number: n where b holds, else 0
+--     any b xs           test: some element of xs passes the test b
+--     SameSet xs ys      claim: xs and ys hold the same elements: every test passes in both or in neither
+--     anyBelow n b       test: some number below n passes the test b
+--     isIn x xs          test: x is in xs
+--     occurs x xs        number: how often x is in xs
+--     keep b xs          list: the elements that pass the test b, in their order
+--     least f i b        number: the first of i, i + 1 .. that passes b, looked for f times
+--     tabulate f i g     list: g i, g (i + 1) .., f of them
+--     joined g xs        list: the lists g x for each x of xs, one after the other
+--     repeated n xs      list: xs, n times over
+--     iter f n p         number: f applied n times to p
+--     largest g xs       number: the largest g x, 0 if there is none
+--     isEven n           test: n is even
+--     bit i v            test: bit i of v is set, counted from 0
+--     asBits k b         number: its bits are the numbers below k that pass the test b
+--     SameBelow n r t    claim: the relations r and t are the same on the numbers below n
 use mathlib.Core.Path.{_≡_}
 use mathlib.Core.Bool.{Bool, true, false, _||_}
 use mathlib.Core.List.{List, [], _∷_, _++_}

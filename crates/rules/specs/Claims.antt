@@ -1,14 +1,14 @@
--- Demand 3: no looped word and no closed walk parts the two tables.
---     tableRows bs c          the rows of the translation of the table that the bytes say, as far as the capacity c lets them be found
---     rowTargets bs c         its four arrays, each without what stands behind the rows
+-- Demand 3: no looped word and no closed walk distinguishes the two tables.
+--     tableRows bs c          list: the rows of the translation of the table that the bytes give, as far as the capacity c lets them be found
+--     rowTargets bs c         lists: its four arrays, each without the entries past the rows
 --     rowPriorities bs c
 --     sourceStates bs c
 --     recordNumbers bs c
---     exceeds bs c            more than c rows are reachable: the translation is full
---     translated bs c         the table is taken, the capacity is in range, and the rows do not exceed it
---     Agrees bs n ts ps ss    n rows with these targets, priorities and source states agree with the Rabin table: on words of
---                             any length, before the judges, refusals included, and on closed walks of any length
---     Demands                 every table that is translated agrees with its translation, whatever stands behind the rows
+--     exceeds bs c            test: more than c rows are reachable, so the translation is full
+--     translated bs c         test: the table is well formed, the capacity is in range, and the rows do not exceed it
+--     Agrees bs n ts ps ss    claim: n rows with these targets, priorities and source states agree with the Rabin table: on words of any
+--                             length, in the answers of the judges, refusals included, and on closed walks of any length
+--     Demands                 claim: every table that is translated agrees with its translation, whatever the entries past the rows are
 use mathlib.Core.Path.{_≡_}
 use mathlib.Core.Logic.{_↔_}
 use mathlib.Core.Bool.{Bool, true, false, _&&_, not}

@@ -1,10 +1,10 @@
 -- What a construction has to show, stated once for every kind of memory, and what follows from it: demand 3 (proofs/Demand3).
---     memoryAfter s k q m w      the memory m carried from q along the letters of w
---     largestAlong s k q m w     the largest priority on that way
---     Lawful s k good Fits       a keeper k over the system s decides `good`, a condition on sets of transitions; Fits q m says that m is
---                                a memory that can stand at q
---     Faithful s start good n ts ps ss     n rows with these targets, priorities and source states agree with the system and the condition:
---                                on looped words of any length, before the judges, and on closed walks
+--     memoryAfter s k q m w     memory: m carried from q along the letters of w
+--     largestAlong s k q m w    number: the largest priority on that way
+--     Lawful s k good Fits      claim: a keeper k over the system s decides `good`, a condition on sets of transitions; Fits q m says that m
+--                               can be the memory at q
+--     Faithful s start good n ts ps ss    claim: n rows with these targets, priorities and source states agree with the system and the
+--                               condition: on looped words of any length, in the judges' answers, and on closed walks
 use mathlib.Core.Path.{_≡_}
 use mathlib.Core.Bool.{Bool, true, false}
 use mathlib.Core.List.{List, [], _∷_}
@@ -29,7 +29,7 @@ pub record Lawful {M : Type 0} (s : System) (k : Keeper M) (good : List Taken �
   -- sameness is equality
   pub same-equal : (m m′ : M) → k .same m m′ ≡ true → m ≡ m′
   pub same-refl : (m : M) → k .same m m ≡ true
-  -- every memory that is met fits the state where it is met
+  -- every memory that is reached fits its state
   pub fits-enter : (q : ℕ) → q < s .states → Fits q (k .enter q)
   pub fits-move : (q a : ℕ) (m : M) → q < s .states → a < s .letters → isInside s q a ≡ true → Fits q m → Fits (s .go q a) (k .move q a m)
   -- the condition looks at which transitions there are, and not at how often or in what order

@@ -1,13 +1,15 @@
 -- Both judges (they decide whether an automaton accepts a looped word), their refusals, and the rest of a piece.
---     satisfiesPair, satisfies   a set of transitions satisfies a pair (a Rabin pair), the table
---     paritySystem n m ts        the transition system of a parity table of n rows
---     priorityAt m ps x          the priority of a transition of a parity table
---     parityGood m ps            the largest priority of a set of transitions is even
---     rabinRun, parityRun        the answers to a word of letters, of any length
---     wordFault m lead l         10 and 9
---     parityFault n m ts ps      11
---     rabinJudge, parityJudge    the answers with their refusals
---     restOf lead l i            from place i of the word to the end of its piece
+--     satisfiesPair t i xs          test: the set of transitions xs satisfies pair i (a Rabin pair)
+--     satisfies t xs                test: it satisfies the table
+--     rabinRun t lead l             answer of a Rabin table to a word of letters, of any length
+--     paritySystem n m ts           system: the transitions of a parity table of n rows
+--     priorityAt m ps x             number: the priority of the transition x of a parity table
+--     parityGood m ps xs            test: the largest priority of the set of transitions xs is even
+--     parityRun n m ts ps lead l    answer of a parity table to a word of letters, of any length
+--     wordFault m lead l            refusal of a word: 10, 9 or 0
+--     parityFault n m ts ps         refusal of a parity table: 11 or 0
+--     rabinJudge, parityJudge       the answers with their refusals
+--     restOf lead l i               list: the letters from place i of the word to the end of its piece
 use mathlib.Core.Bool.{Bool, not, _&&_, _||_}
 use mathlib.Core.List.{List}
 use Prim.Native.Nat.{ℕ, suc, _-_, _*_}

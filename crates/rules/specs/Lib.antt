@@ -1,4 +1,4 @@
--- The rules: document 01 as definitions, bottom first.
+-- The rules: docs/RULES.md as definitions, bottom first.
 pub mod Basics
 pub mod Arrays
 pub mod Limits

@@ -1,20 +1,20 @@
 -- Index appearance records: an ordering of pair numbers, positions counted from 1.
---     Marks                which pairs a transition prohibits and which it requires
---     moved arr p o        the pairs of o that p picks move to the front, arranged by arr, and the others follow in their order
---     asTheyStood          the arrangement that keeps the order that they had among themselves
---     Rearranges arr       arr keeps every element, as often as it stood
---     priority m o         from the record before the move: with p the largest position of a pair with either mark, 1 if there is none,
---                          2p + 1 if that pair is prohibited, else 2p
---     priorityWith p m i best      what pair i at position p makes of the priority found before it
---     priorityFrom p m o best      the same where o begins at position p of a record and best is the priority found before it
---     hasMark m i          pair i has either mark
---     PriorityIs m o x     x is that priority: the last pair of o with either mark decides it, 1 if there is none
---     movedAlong arr ms o          the record o after a walk whose transitions have the marks ms
---     largestPriority arr ms o     the largest priority on that walk
---     satisfied ms i               pair i is never prohibited and once required on the walk
---     decimal o            the pair numbers read as one decimal number, 0 if there is none
---     decimalFrom v o      the same behind the digits of v
---     sameOrder o o′       the two hold the same pairs in the same order
+--     Marks                       record of two tests: which pairs a transition prohibits and which it requires
+--     asTheyStood                 the arrangement that keeps the order that they had among themselves
+--     moved arr p o               list: the pairs of o that p picks move to the front, arranged by arr, and the others follow in their order
+--     Rearranges arr              claim: arr keeps every element, as often as it occurs
+--     priorityWith p m i best     number: what pair i at position p makes of the priority found before it
+--     priorityFrom p m o best     number: the same where o begins at position p of a record and best is the priority found before it
+--     priority m o                number: from the record before the move: with p the largest position of a pair with either mark, 1 if there
+--                                 is none, 2p + 1 if that pair is prohibited, else 2p
+--     hasMark m i                 test: pair i has either mark
+--     PriorityIs m o x            claim: x is that priority: the last pair of o with either mark decides it, 1 if there is none
+--     movedAlong arr ms o         list: the record o after a walk whose transitions have the marks ms
+--     largestPriority arr ms o    number: the largest priority on that walk
+--     satisfied ms i              test: pair i is never prohibited and at least once required on the walk
+--     decimalFrom v o             number: the digits of v, then the pair numbers of o
+--     decimal o                   number: the pair numbers read as one decimal number, 0 if there are none
+--     sameOrder o o′              test: the two hold the same pairs in the same order
 use mathlib.Core.Path.{_≡_}
 use mathlib.Core.Bool.{Bool, true, false, not, _&&_, _||_}
 use mathlib.Core.List.{List, [], _∷_, _++_}

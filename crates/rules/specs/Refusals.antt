@@ -1,15 +1,15 @@
--- The refusals by document 01's words; each is its number, and 0 is no refusal.
---     short      fewer bytes than the header has, or than the sizes demand
---     sizes      n, m or k out of range
---     long       bytes left over
---     start      the start is no state
---     target     a target neither a state nor the missing one
---     marks      a bit above pair k, or any bit on a missing transition
---     arrays     the capacity out of range, or a lent array below its size
---     full       more reachable rows than the capacity
---     letter     a byte of a word that is no letter
---     loop       the loop empty, or a piece of a word too long
---     parity     a parity table whose sizes, arrays or targets are out of range
+-- The refusals by name (RULES, "Refusals"); each is its number, and 0 is no refusal.
+--     short     fewer bytes than the header has, or than the sizes demand
+--     sizes     n, m or k out of range
+--     long      more bytes than the sizes demand
+--     start     the start is no state
+--     target    a target that is neither a state nor that of a missing transition
+--     marks     a bit above pair k, or any bit on a missing transition
+--     arrays    the capacity out of range, or a lent array too short
+--     full      more reachable rows than the capacity
+--     letter    a byte of a word that is no letter
+--     loop      the loop empty, or a piece of a word too long
+--     parity    a parity table whose sizes, arrays or targets are out of range
 use Prim.Native.Nat.{ℕ}
 
 abbrev pub short : ℕ

@@ -1,37 +1,39 @@
 -- Rows and their discovery, and the arrays of a table of rows; over any kind of row.
---     Step                     what a row does by a letter: whether the transition is there, the row it leads to, its priority
---     Plan                     what is explored: the letters, the first row, the step, and when two rows are the same
---     SameIsEqual g            sameness of rows is equality
---     placeOf b xs             the place of the first element that passes b, past the end for none
---     numberOf g r rs          the number of the first row of rs that is the same as r, past the end for absent
---     rowsWith g rs r a        rs after the row r is read by the letter a: its target added at the end, if it is there and absent
---     foundBy f a g r rs       rs after r is read by the letters a, a + 1 .., f of them
---     foundFrom f i g c rs     rs after the rows i, i + 1 .. are read, f of them at most, as long as there are such rows and no more than c
---     rowsOf g c               the reachable rows in order of discovery, rows taken by number and letters rising within each; no
---                              further row is read once there are more than c
---     isFull g c               more than c rows were found
---     rowAt g rs i             row number i
---     Reached g r              some letters lead from the first row to r
---     Distinct g rs            no row stands twice in rs
---     Earlier j b i a          row j is read by the letter b before row i is by a: rows by number, letters rising within each
---     Discovered g rs k        row k is what a transition of an earlier row leads to, and every transition that is read earlier leads to
---                              a row numbered below k
---     MoreThan g c             more than c different rows are reachable
---     RowsAre g c              what the rows found are: exactly the reachable ones, each once, in order of discovery, unless there are more
---                              than c, which is full
---     targetNumber g none rs r a     the number of the row to which r leads by a, `none` where the transition is missing
---     allTargets, allPriorities     one list for each row, joined
---     Read g none rs p ts ps   the cells below p are read: ts has the number of the row to which each leads among rs, `none` where the
---                              transition is missing, and ps its priority
---     Row                      a source state with a memory (a state of the parity automaton)
---     row q m                  the row of state q and memory m
---     sources rs               the source state of each row
---     Keeper                   a kind of memory: what it is where a component is entered, how it moves along an inside transition, the
---                              priority of that transition, and when two memories are the same
---     missingPriority, crossingPriority     the priorities of a missing and of a crossing transition
---     missingStep, insideStep, crossingStep     the three kinds of transition; a crossing enters its component anew
---     sameRow k r r′           the two have the same state and the same memory
---     stepOf, planOf           the rows of a transition system with a keeper: missing, inside and crossing transitions, said once
+--     Step                          record: what a row does by a letter: whether the transition is there, the row it leads to, its priority
+--     Plan                          record: what is explored: the letters, the first row, the step, and when two rows are the same
+--     SameIsEqual g                 claim: sameness of rows is equality
+--     placeOf b xs                  number: the place of the first element that passes b, past the end for none
+--     numberOf g r rs               number: that of the first row of rs that is the same as r, past the end for absent
+--     rowsWith g rs r a             list: rs after the row r is read by the letter a: its target added at the end, if it is there and absent
+--     foundBy f a g r rs            list: rs after r is read by the letters a, a + 1 .., f of them
+--     foundFrom f i g c rs          list: rs after the rows i, i + 1 .. are read, f of them at most, as long as there are such and no more than
+--                                   c
+--     rowsOf g c                    list: the reachable rows in order of discovery, rows read by number and letters rising within each; no
+--                                   further row is read once there are more than c
+--     isFull g c                    test: more than c rows were found
+--     rowAt g rs i                  row number i
+--     Reached g r                   claim: some letters lead from the first row to r
+--     Distinct g rs                 claim: no row is twice in rs
+--     Earlier j b i a               claim: row j is read by the letter b before row i is by a: rows by number, letters rising within each
+--     Discovered g rs k             claim: row k is what a transition of an earlier row leads to, and every transition that is read earlier
+--                                   leads to a row numbered below k
+--     MoreThan g c                  claim: more than c different rows are reachable
+--     RowsAre g c                   claim: the rows found are exactly the reachable ones, each once, in order of discovery, unless there are
+--                                   more than c, which is full
+--     targetNumber g none rs r a    number: that of the row to which r leads by a, `none` where the transition is missing
+--     allTargets g none rs, allPriorities g rs    lists: those of each row, joined
+--     Read g none rs p ts ps        claim: the cells below p are read: ts has the number of the row to which each leads among rs, `none` where
+--                                   the transition is missing, and ps its priority
+--     Row                           record: a source state with a memory (a state of the parity automaton)
+--     row q m                       the row of state q and memory m
+--     sources rs                    list: the source state of each row
+--     Keeper                        record: a kind of memory: what it is where a component is entered, how it moves along an inside transition,
+--                                   the priority of that transition, and when two memories are the same
+--     missingPriority, crossingPriority    the priorities of a missing and of a crossing transition
+--     missingStep, insideStep, crossingStep    the steps of the three kinds of transition; a crossing enters its component anew
+--     stepOf s k r a                the step of a row of a system with a keeper: one of these three
+--     sameRow k r r′                test: the two have the same state and the same memory
+--     planOf s q k                  the plan of a system with a keeper, from state q
 use mathlib.Core.Path.{_≡_}
 use mathlib.Core.Logic.{_↔_, _⊎_}
 use mathlib.Core.Bool.{Bool, true, false, _&&_}
@@ -81,7 +83,7 @@ rowsOf g c = foundFrom (suc c) 0 g c (g .first ∷ [])
 abbrev pub isFull : {A : Type 0} → Plan A → ℕ → Bool
 isFull g c = ltb c (length (rowsOf g c))
 
--- what the rows found stand for, in document 01's words
+-- what the rows found stand for, as in RULES, "Discovery"
 abbrev pub rowAt : {A : Type 0} → Plan A → List A → ℕ → A
 rowAt g rs i = getD rs i (g .first)
 
@@ -114,7 +116,7 @@ pub record MoreThan {A : Type 0} (g : Plan A) (c : ℕ) : Type 0 where
 pub record RowsAre {A : Type 0} (g : Plan A) (c : ℕ) : Type 0 where
   pub some : 0 < length (rowsOf g c)
   pub first : rowAt g (rowsOf g c) 0 ≡ g .first
-  -- each row stands once, and is the one of its number
+  -- each row is there once, and is the one of its number
   pub once : (k : ℕ) → k < length (rowsOf g c) → numberOf g (rowAt g (rowsOf g c) k) (rowsOf g c) ≡ k
   pub numbered : (r : A) → numberOf g r (rowsOf g c) < length (rowsOf g c) → rowAt g (rowsOf g c) (numberOf g r (rowsOf g c)) ≡ r
   -- in order of discovery

@@ -1,29 +1,29 @@
 -- Looped words and runs, recurring transitions, walks; over any transition system.
 -- A looped word (an ultimately periodic word) is a lead-in (its finite prefix) and a loop (its period) that is repeated for ever.
 -- A transition recurs if it is among those that the run takes infinitely often.
---     strayLetter m w            some byte of w is no letter
---     At                         where a run stands: stopped or not, the state, the letters read
---     standing b p n             stopped or not, at state p after n letters
---     reads s x a                one letter more: a run that meets no transition stops where it stands, and that letter is not counted
---     goesBy s x w               the letters of w, one after the other
---     Taken                      a transition, as the state that it leaves and its letter
---     taken p a                  the transition of state p by the letter a
---     isTaken x y                x and y are the same transition
---     passFrom s p w             the transitions taken in reading w from p
---     follow s w p               where the letters of w lead from p, if the transitions on the way are there
---     turn s l r p               where the repetition after the r-th of the loop l begins, the first of them at p
---     ReadsOn s l p n            n repetitions of the loop l are read one after the other, the first of them from p
---     longRun s q lead l         the run from q after the lead-in and as many repetitions of the loop as there are states
---     recurring s q lead l       the transitions taken in as many repetitions more: of that many repetitions some begins at
---                                a state for the second time, so these are just the transitions that recur (`recurs-view`)
---     Stop s p w                 reading w from p meets a missing transition: some letters lead on, and for the next there is none
---     MeetsMissing s q lead l i  the word's run from q meets a missing transition after i letters, in the lead-in or in some repetition
---     TakenIn s q lead l r x     x is taken in the repetition after the r-th
---     Recurs s q lead l x        for every r, x is taken in some repetition after the r-th
---     goesFrom s p xs            xs is a walk from p: transitions that are there, each leaving the state to which the one before leads
---     endOf s p xs               the state to which the walk leads
---     isClosedWalk s xs          xs is a walk, is not empty and leads back to the state that it leaves
---     projected ss xs            a walk's projection: for each row its source state, which ss gives
+--     strayLetter m w              test: some byte of w is no letter
+--     At                           record: where a run is: stopped or not, the state, the letters read
+--     standing b p n               the same, stopped or not, at state p after n letters
+--     reads s x a                  where a run is after one letter more: at a missing transition it stops, and that letter is not counted
+--     goesBy s x w                 where a run is after the letters of w
+--     Taken                        record: a transition, as the state that it leaves and its letter
+--     taken p a                    the transition of state p by the letter a
+--     isTaken x y                  test: x and y are the same transition
+--     passFrom s p w               list: the transitions taken in reading w from p
+--     follow s w p                 state: where the letters of w lead from p, if the transitions on the way are there
+--     turn s l r p                 state: where the repetition after the r-th of the loop l begins, the first of them at p
+--     ReadsOn s l p n              claim: n repetitions of the loop l are read one after the other, the first of them from p
+--     longRun s q lead l           where the run from q is after the lead-in and as many repetitions of the loop as there are states
+--     recurring s q lead l         list: the transitions taken in as many repetitions more: of that many repetitions some begins at a state for
+--                                  the second time, so these are just the transitions that recur (`recurs-view`)
+--     Stop s p w                   claim: reading w from p meets a missing transition: some letters lead on, and for the next there is none
+--     MeetsMissing s q lead l i    claim: the word's run from q meets a missing transition after i letters, in the lead-in or in the loop
+--     TakenIn s q lead l r x       claim: x is taken in the repetition after the r-th
+--     Recurs s q lead l x          claim: for every r, x is taken in some repetition after the r-th
+--     goesFrom s p xs              test: xs is a walk from p: transitions that are there, each leaving the state to which the one before leads
+--     endOf s p xs                 state: where the walk leads
+--     isClosedWalk s xs            test: xs is a walk, is not empty and leads back to the state that it leaves
+--     projected ss xs              list: a walk's projection: for each row its source state, which ss gives
 use mathlib.Core.Path.{_≡_}
 use mathlib.Core.Bool.{Bool, true, false, _&&_, _||_}
 use mathlib.Core.List.{List, [], _∷_, _++_, map}
@@ -81,7 +81,7 @@ longRun s q lead l = goesBy s (standing false q 0) (lead ++ repeated (s .states)
 abbrev pub recurring : System → ℕ → List ℕ → List ℕ → List Taken
 recurring s q lead l = passFrom s (longRun s q lead l .place) (repeated (s .states) l)
 
--- what the computed run and the recurring transitions stand for, in document 01's words
+-- what the computed run and the recurring transitions stand for, as in RULES, "Runs" and "Recurring"
 pub record Stop (s : System) (p : ℕ) (w : List ℕ) : Type 0 where
   pub before : List ℕ
   pub next : ℕ

@@ -1,22 +1,24 @@
 -- What the public calls promise: the result, and the later contents of every lent array, for all arguments and every outcome.
 -- A prime marks an array's contents at exit.
---     CheckSays bs r                          checking a table
---     over xs o                               o with xs at its front, what stands behind untouched
---     components t                            the smallest state of each state's component
---     componentsFault bs n                    the table's refusals, then 7 for an array of n bytes that is too short
---     ComponentsSay bs o o′ r                 finding the components
---     areShort c m a b d e                    the capacity is out of range, or one of the four lent arrays, of lengths a, b, d and e, is too short
---     arraysFault c m a b d e                 7: the capacity, or the lengths of the four lent arrays
---     translateFault bs c a b d e             the table's refusals, then 7, then 8
---     padded n xs o                           o with xs and zeros up to n at its front
---     afterwards f n xs o                     what an array of n places for c rows holds after the refusal f: on success xs and zeros, on
---                                             8 zeros, else what it held
---     TranslateSays bs c (rowArrays ts .. rows the) (rowArrays ts′ number translating: targets) ts, priorities ps, source states ss and record numbers es
---     TranslationAgrees bs ts′ ps′ ss′ number rows    demand 3 of the arrays as the translator leaves them, whatever the entries past the rows are
---     RabinSays, ParitySays                   judging a looped word
---     ComponentsMean, TranslationMeans, RabinMeans, ParityMeans     what the equalities above mean, in terms of paths, reachable rows, orderings,
---                                             missing transitions and recurring ones
---     RestSays lead l i part                  the rest of a piece as that very part of it
+--     CheckSays bs r                         claim: checking a table gives r
+--     over xs o                              list: o with xs at its front, the entries past them untouched
+--     components t                           list: the smallest state of each state's component
+--     componentsFault bs n                   refusal: the table's, then 7 for an array of n bytes that is too short
+--     ComponentsSay bs o o′ r                claim: finding the components gives r, and o becomes o′
+--     areShort c m a b d e                   test: the capacity is out of range, or a lent array, of length a, b, d or e, is too short
+--     arraysFault c m a b d e                refusal: 7 where that holds
+--     translateFault bs c a b d e            refusal: the table's, then 7, then 8
+--     padded n xs o                          list: o with xs and zeros up to n at its front
+--     afterwards f n xs o                    list: what an array o with n places for rows holds after the refusal f: on success xs and zeros,
+--                                            on 8 zeros, else what it held
+--     RowArrays                              record of the four lent arrays: targets, priorities, source states and record numbers
+--     rowArrays ts ps ss es                  the four as one record
+--     TranslateSays bs c o o′ number rows    claim: translating with the capacity c gives this refusal and count, and the arrays o become o′
+--     TranslationAgrees bs ts′ ps′ ss′ number rows    claim: demand 3 of the arrays as they are left, whatever the entries past the rows
+--     RabinSays, ParitySays                  claims: judging a looped word gives this answer
+--     ComponentsMean, TranslationMeans, RabinMeans, ParityMeans    claims: what the equalities above mean, in terms of paths, reachable rows,
+--                                            orderings, missing transitions and recurring ones
+--     RestSays lead l i part                 claim: the rest of a piece is that very part of it
 use mathlib.Core.Path.{_≡_}
 use mathlib.Core.Bool.{Bool, _||_}
 use mathlib.Core.List.{List, [], _++_}

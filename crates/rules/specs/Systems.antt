@@ -1,17 +1,18 @@
 -- Transition systems: reach and components, for any number of states.
---     System              states 0 .. states - 1, letters 0 .. letters - 1, and where a state goes by a letter;
---                         a target that is no state means that there is no transition (a partial deterministic transition system)
---     linked s p q        some letter leads from p to q
---     via e k p q         a chain of links e leads from p to q, passing only through states below k (Warshall's closure)
---     reaches s p q       p and q are equal, or a chain of transitions leads from p to q
---     together s p q      p and q share a component (a strongly connected component)
---     componentOf s q     the smallest state of q's component
---     isInside s q a      the transition of q by a is there and both its ends share a component; if it is there and is not inside, it is crossing
---     someWithin s b q     some inside transition of q's component passes the test b
---     Path s p w q        the letters of w lead from p to q by transitions that are there
---     Leads s p q         some letters lead from p to q
---     ComponentsAre s f   f gives each state the smallest state of its component, in terms of paths
---     cell m q a          the number of the cell of state (or row) q and letter a in a table with m letters
+--     System               record: states 0 .. states - 1, letters 0 .. letters - 1, and where a state goes by a letter; a target that is no
+--                          state means that there is no transition (a partial deterministic transition system)
+--     linked s p q         test: some letter leads from p to q
+--     via e k p q          test: a chain of links e leads from p to q, passing only through states below k (Warshall's closure)
+--     reaches s p q        test: p and q are equal, or a chain of transitions leads from p to q
+--     together s p q       test: p and q share a component (a strongly connected component)
+--     componentOf s q      number: the smallest state of q's component
+--     isInside s q a       test: the transition of q by a is there and both its ends share a component; if it is there and is not inside, it is
+--                          crossing
+--     someWithin s b q     test: some inside transition of q's component passes the test b
+--     Path s p w q         claim: the letters of w lead from p to q by transitions that are there
+--     Leads s p q          claim: some letters lead from p to q
+--     ComponentsAre s f    claim: f gives each state the smallest state of its component, in terms of paths
+--     cell m q a           number: that of the cell of state (or row) q and letter a in a table with m letters
 use mathlib.Core.Path.{_≡_}
 use mathlib.Core.Logic.{_↔_}
 use mathlib.Core.Bool.{Bool, _&&_, _||_}

@@ -1,25 +1,26 @@
--- The Rabin table of document 01 (a deterministic Rabin automaton with marks on its transitions): its bytes, its refusals, its
--- components and its rows. A refusal is an error code; a table without one is taken.
---     Table                    sizes, start, targets by cell, marks two by two: the prohibited byte, then the required byte
---     tableOf bs               the table that the bytes say
---     targetOf t q a           where q goes by a; no state where the transition is missing, nor past the last cell
---     prohibitedByte t q a, requiredByte t q a     the marks of the transition of q by a, bit i - 1 for pair i
---     prohibits t q a i        the transition of q by a has pair i's prohibited bit: it is in the pair's Fin set
---     requires t q a i         the transition of q by a has pair i's required bit: it is in the pair's Inf set
---     badSizes n m k         a size is out of range;  tableLength n m  the bytes that the sizes demand
---     badTargets n none ts    some target is neither below n nor the missing one
---     badMark, badMarks    the marks of one transition, or some marks, are not right for k pairs and their targets
---     tableFault bs            the refusal of the bytes, 1 to 6 in document 01's order, 0 if the table is taken
---     systemOf t               the table's transition system
---     countsBy t i p a         the transition of p by a, if it is inside, makes pair i count: it has the required bit
---     counts t q i             pair i counts in q's component: some inside transition of it makes it count
---     rising t q               the pairs that count in q's component, rising
---     isCounted t q i          i is a pair, and it counts in q's component
---     IsOrdering t q o         o holds each pair that counts in q's component once, and nothing else
---     marksOf t q a            the marks of the transition of q by a
---     recordKeeper t           index appearance records as the memory of rows
---     tablePlan t              the rows of the table's translation
---     StepIs t r a x           x is what the row r does by the letter a, whole: no transition, a crossing, or an inside transition
+-- The Rabin table (a deterministic Rabin automaton with marks on its transitions): its bytes, its refusals, its components and its rows.
+--     Table                   record: sizes, start, targets by cell, marks two by two: the prohibited byte, then the required byte
+--     tableOf bs              the table that the bytes give
+--     targetOf t q a          number: where q goes by a; no state where the transition is missing, nor past the last cell
+--     prohibitedByte t q a, requiredByte t q a    numbers: the marks of the transition of q by a, bit i - 1 for pair i
+--     prohibits t q a i       test: the transition of q by a has pair i's prohibited bit: it is in the pair's Fin set
+--     requires t q a i        test: the transition of q by a has pair i's required bit: it is in the pair's Inf set
+--     badSizes n m k          test: a size is out of range
+--     tableLength n m         number: the bytes that the sizes demand
+--     badTargets n none ts    test: some target is neither below n nor `none`
+--     badMark k target p r    test: the marks p and r of one transition are not right for k pairs and its target
+--     badMarks k ts ms        test: some of the marks are not
+--     tableFault bs           refusal of the bytes, 1 to 6 as in RULES, "Order", or 0 if the table is well formed
+--     systemOf t              system: the table's transitions
+--     countsBy t i p a        test: the transition of p by a, if it is inside, makes pair i count: it has the required bit
+--     counts t q i            test: pair i counts in q's component: some inside transition of it makes it count
+--     rising t q              list: the pairs that count in q's component, rising
+--     isCounted t q i         test: i is a pair, and it counts in q's component
+--     IsOrdering t q o        claim: o holds each pair that counts in q's component once, and nothing else
+--     marksOf t q a           the marks of the transition of q by a
+--     recordKeeper t          the keeper whose memories are index appearance records
+--     tablePlan t             the plan of the table's translation
+--     StepIs t r a x          claim: x is what the row r does by the letter a, whole: no transition, a crossing, or an inside transition
 use mathlib.Core.Path.{_≡_}
 use mathlib.Core.Bool.{Bool, true, false, not, _&&_, _||_}
 use mathlib.Core.List.{List, [], _∷_, _++_}

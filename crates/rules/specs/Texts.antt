@@ -1,10 +1,10 @@
 -- Text: lists of bytes in ASCII. Nothing here knows automata.
---     blank, lineFeed, dash     the bytes that are no digits
---     digit d              the byte of a digit below 10
---     numeralWithin f n    n in decimal, where f is no less than n
---     numeral n            n in decimal, in the fewest digits: `0` for 0
---     each f i g           the texts g i, g (i + 1) .., f of them, one after the other
---     put at t o           o with the text t written from place `at` on; what falls past the end of o is dropped
+--     blank, lineFeed, dash    numbers: the bytes that are no digits
+--     digit d                  number: the byte of a digit below 10
+--     numeralWithin f n        text: n in decimal, where f is no less than n
+--     numeral n                text: n in decimal, in the fewest digits: `0` for 0
+--     each f i g               text: the texts g i, g (i + 1) .., f of them, one after the other
+--     put at t o               list: o with the text t written from place `at` on; what falls past the end of o is dropped
 use mathlib.Core.List.{List, [], _∷_, _++_}
 use Prim.Native.Nat.{ℕ, zero, suc, _+_, _/_, _%_}
 use lib.Dec.{ltb}

@@ -1,9 +1,9 @@
--- Where the cells of a table that is formed stand among its bytes.
---     targetAt, target-within, target-byte         the place of the byte that says where q goes by a, and that byte
---     prohibitedAt, prohibited-byte     the place of the byte of that transition's prohibited marks, and that byte
---     requiredAt, required-byte     the same of its required marks
---     target-count, mark-count      one target and two marks for each cell
---     marks-small                   no marks have a bit above pair k, whatever the cell
+-- Where the cells of a well-formed table are among its bytes.
+--     targetAt, target-within, target-byte    the place of the byte that says where q goes by a, and that byte
+--     prohibitedAt, prohibited-byte    the place of the byte of that transition's prohibited marks, and that byte
+--     requiredAt, required-byte        the same of its required marks
+--     target-count, mark-count         one target and two marks for each cell
+--     marks-small                      no marks have a bit above pair k, whatever the cell
 use mathlib.Core.Path.{_≡_, _∙_}
 use mathlib.Core.Bool.{false, not, _&&_}
 use mathlib.Core.List.{List, [], _∷_}
@@ -22,7 +22,7 @@ use Rattle.rules.proofs.Bools.{or-none, and-parts}
 use Rattle.rules.proofs.Refusals.{table-facts}
 use Rattle.tables.specs.Parts.{WellFormed}
 
--- marks that are formed have no bit above pair k; past the last cell there are none
+-- marks that pass the check have no bit above pair k; past the last cell there are none
 marks-below : (k : ℕ) (ts ms : List ℕ) (c : ℕ) → badMarks k ts ms ≡ false → length ms ≤ 2 * length ts
     → (getD ms (2 * c) 0 < 2 ^ k) × (getD ms (suc (2 * c)) 0 < 2 ^ k)
 marks-below k [] ms c h l =

@@ -1,8 +1,8 @@
 -- The checks of sizes and cells.
---     bad-sizes                  the sizes within their ranges, as tests
---     mask-tested                    both sets of marks of a cell as one word
---     marks-turn                   what is left to check after one cell more
---     marks-end                    no cell is left
+--     bad-sizes      the sizes within their ranges, as tests
+--     mask-tested    both sets of marks of a cell as one mask
+--     marks-turn     what is left to check after one cell more
+--     marks-end      no cell is left
 use mathlib.Core.Path.{_≡_, refl, sym, ap, _∙_}
 use mathlib.Core.Bool.{Bool, true, false, not, _&&_, _||_, or-assoc, or-false}
 use mathlib.Core.List.{List}
@@ -44,7 +44,7 @@ bad-sizes n m k =
     rw (at-least-one n, at-most n maxStates, at-least-one m, at-most m maxLetters, at-most k maxPairs)
     (none-of (eqb n 0) (ltb maxStates n) (eqb m 0) (ltb maxLetters m) (ltb maxPairs k))
 
--- both sets of marks as one word, by the bits that it must not have
+-- both sets of marks as one mask, by the bits that it must not have
 mask-bare : (k u v : ℕ) → not (ltb u 1 && ltb v 1) ≡ not (ltb u (2 ^ k) && ltb v (2 ^ k)) || not (eqb u 0 && eqb v 0)
 mask-bare k zero zero = rw (lt-ltb 0 (2 ^ k) (pow-pos k))
 mask-bare k (suc u) v =

@@ -1,11 +1,11 @@
--- A table that is formed, laid out: what its arrays say of its system and of what counts.
---     marks-rest             the rest of the bytes are the marks
---     targets-written, marks-written     what is laid out of the parts of the bytes is the table's
---     targets-laid, marks-laid           an array with the table's targets or marks at its front, by state and letter
---     laid-go, go-laid       the system in the array of targets has the table's transitions, and no others
---     is-table               a table that is formed has sizes in range
---     laid-homes-at, laid-homes     its components are the table's
---     laid-counted           what its inside transitions require is what counts in the table
+-- A well-formed table, laid out: what its arrays say of its system and of what counts.
+--     marks-rest                        the rest of the bytes are the marks
+--     targets-written, marks-written    what is laid out of the parts of the bytes is the table's
+--     targets-laid, marks-laid          an array with the table's targets or marks at its front, by state and letter
+--     laid-go, go-laid                  the system in the array of targets has the table's transitions, and no others
+--     is-table                          a well-formed table has sizes in range
+--     laid-homes-at, laid-homes         its components are the table's
+--     laid-counts, laid-counted         what its inside transitions require is what counts in the table
 use mathlib.Core.Path.{_≡_, refl, sym, ap, _∙_}
 use mathlib.Core.Bool.{Bool, false}
 use mathlib.Core.List.{List}
@@ -49,7 +49,7 @@ wide-list part xs k e l =
     ap (λ (ys : List ℕ). tabulate (length ys) 0 (λ c. wideTarget (getD ys c 0))) e
     ∙ ap (λ (j : ℕ). tabulate j 0 (λ c. wideTarget (getD xs c 0))) l
 
--- where no transition passes a test, none is met
+-- where no transition passes a test, none within a component does
 met-none : (s : System) (b : ℕ → ℕ → Bool) (q : ℕ) → ((p a : ℕ) → b p a ≡ false) → someWithin s b q ≡ false
 met-none s b q none = by (someWithin s b q) (λ e. let r = within-view s b q .0 e in clash (r .passes) (none (r .state) (r .letter))) (λ e. e)
 

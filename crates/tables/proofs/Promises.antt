@@ -1,9 +1,9 @@
 -- From what a call found to what it promises.
---     components-refused, lay-refused        the table's own refusal
---     components-short, lay-short            an array too short
---     components-found, laid                 done
---     components-promised                    the components' second promise, from the first
---     survey-room                            what holds where a survey fits
+--     components-refused, lay-refused    the table's own refusal
+--     components-short, lay-short        an array too short
+--     components-found, laid             done
+--     components-promised                the components' second promise, from the first
+--     survey-room                        what holds where a survey fits
 use mathlib.Core.Path.{_≡_, refl}
 use mathlib.Core.Bool.{Bool, true, false, _&&_, _||_}
 use mathlib.Core.List.{List}

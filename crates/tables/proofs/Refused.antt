@@ -1,6 +1,6 @@
 -- The refusals of a table in their order: each is given where its test is the first that holds.
---     targets-part, marks-part       the parts of the bytes that the cells are; parts-match: two marks for each target
---     header-short .. cells-judged   one law for each test, from what the tests before it left
+--     targets-part, marks-part        the parts of the bytes that the cells are; parts-match: two marks for each target
+--     header-short .. cells-judged    one law for each test, from what the tests before it left
 use mathlib.Core.Path.{_≡_}
 use mathlib.Core.Bool.{true, false}
 use mathlib.Core.List.{List}

@@ -1,10 +1,10 @@
 -- Turns of the survey's loops and what they come to, for any system and any tests on its transitions.
---     component-below    the number of a component is a state
---     listed             an array with a list at its front
---     home-inside        which transitions are inside, by the numbers of components
---     gathered-none, gathered-more     what each component meets, one state more
---     gathered-all       what is met within a state's component
---     CountedBelow, counted-more     what the inside transitions by the letters below a meet, one letter more
+--     component-below                 the number of a component is a state
+--     listed                          an array with a list at its front
+--     home-inside                     which transitions are inside, by the numbers of components
+--     gathered-none, gathered-more    the tests that each component passes, one state more
+--     gathered-all                    the tests passed within a state's component
+--     CountedBelow, counted-more      the tests that the inside transitions by the letters below a pass, one letter more
 use mathlib.Core.Path.{_≡_, refl, sym, _∙_}
 use mathlib.Core.Bool.{Bool, _&&_, or-comm}
 use mathlib.Core.List.{List}
@@ -30,7 +30,7 @@ use Rattle.rules.proofs.Bits.{bit-or, bit-none, bits-are}
 pub listed : (n : ℕ) (g : ℕ → ℕ) (old xs : List ℕ) → n ≤ length xs → xs ≡ over (tabulate n 0 g) old → Listed n g xs
 listed n g old xs l e = record { enough = l; entry = λ q b. rw e (over-at g n old q b) }
 
--- what the inside transitions by the letters below a of one state meet
+-- the tests that the inside transitions of one state by the letters below a pass
 abbrev pub CountedBelow : System → (ℕ → ℕ → ℕ → Bool) → ℕ → ℕ → ℕ → Type 0
 CountedBelow s b q a met = (i : ℕ) → bit i met ≡ anyBelow a (λ c. isInside s q c && b i q c)
 

@@ -1,17 +1,20 @@
 -- A table laid out in two arrays, one entry for each cell, and what is surveyed of such arrays. A prime marks an array's contents at exit.
---     wideTarget x           a target as 16 bits: 65,535 where the transition is missing
---     targetIn t c, maskIn t c     the target of cell c as 16 bits; its marks as one word, the required byte above the prohibited byte
---     targetCells t, markCells t    the same for each cell
---     TargetsLaid t ts, MarksLaid t ms     the array holds the targets or the marks of t, by state and letter
---     IsTable t              the sizes of t are in range, its start is a state, and no marks have a bit above its pairs
---     countedPairs t q       the pairs that count in q's component, as bits: bit i - 1 for pair i
---     layFault bs a b        the table's refusals, then 7 where an array of a or of b entries is too short for its cells
---     LaySays bs ..          laying out: both arrays, entries past the cells untouched, and the sizes; on a refusal nothing is written and all sizes are 0
---     surveyFits n m ..      the sizes are in range, and the arrays have room for the cells and the states
---     requiredIn m ms i      the test that bit i stands for: the transition of p by a, if it is inside, makes pair i + 1 count
---     pairBits               how many bits a set of pairs has
---     countedIn n m ts ms q  the pairs that count in q's component, as bits, by the laid-out cells
---     SurveySays n m ..      surveying: both arrays, entries past the states untouched; where something does not fit nothing is written
+--     wideTarget x                  number: a target as 16 bits, 65,535 where the transition is missing
+--     targetIn t c                  number: the target of cell c as 16 bits
+--     maskIn t c                    number: its marks as one mask, the required byte above the prohibited byte
+--     targetCells t, markCells t    lists: the same for each cell
+--     TargetsLaid t ts              claim: the array holds the targets of t, by state and letter
+--     MarksLaid t ms                claim: the array holds the masks of t, by state and letter
+--     IsTable t                     claim: the sizes of t are in range, its start is a state, and no marks have a bit above its pairs
+--     countedPairs t q              number: the pairs that count in q's component, as bits: bit i - 1 for pair i
+--     layFault bs a b               refusal: the table's, then 7 where an array of a or of b entries is too short for its cells
+--     LaySays bs ..                 claim: laying out: both arrays, entries past the cells untouched, and the sizes; on a refusal nothing is
+--                                   written and all sizes are 0
+--     surveyFits n m ..             test: the sizes are in range, and the arrays have room for the cells and the states
+--     requiredIn m ms i p a         test, the one that bit i stands for: the transition of p by a, if it is inside, makes pair i + 1 count
+--     pairBits                      number: how many bits a set of pairs has
+--     countedIn n m ts ms q         number: the pairs that count in q's component, as bits, by the laid-out cells
+--     SurveySays n m ..             claim: surveying: both arrays, entries past the states untouched; nothing is written where it does not fit
 use mathlib.Core.Path.{_≡_}
 use mathlib.Core.Bool.{Bool, _&&_, _||_}
 use mathlib.Core.List.{List}

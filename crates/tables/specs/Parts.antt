@@ -1,11 +1,11 @@
 -- What the functions below the calls ask and leave, by name.
---     WellFormed bs               the bytes are a table that is formed
---     statesOf bs            its number of states
---     systemIn bs            its transition system
---     Listed n f xs          the first n entries of xs are f 0, f 1 ..
---     Gathered s b k q sets  the entry of each component's number holds, as bits, the tests b i of k that some inside transition of one of
---                            its states below q passes; for any system and any tests
---     CellsRoom n m ts ms hs     the arrays have an entry for each cell, and the homes are the components
+--     WellFormed bs             claim: the bytes are a table that passes its check
+--     statesOf bs               number: its states
+--     systemIn bs               system: its transitions
+--     Listed n f xs             claim: the first n entries of xs are f 0, f 1 ..
+--     Gathered s b k q sets     claim: the entry of each component's number holds, as bits, the tests b i of k that some inside transition of
+--                               one of its states below q passes; for any system and any tests
+--     CellsRoom n m ts ms hs    claim: the arrays have an entry for each cell, and the homes are the components
 use mathlib.Core.Path.{_≡_}
 use mathlib.Core.Bool.{Bool, _&&_}
 use mathlib.Core.List.{List}

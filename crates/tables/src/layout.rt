@@ -1,4 +1,4 @@
-// From bytes to two arrays with an entry for each cell. This and the check are all that knows the bytes of a table.
+// From bytes to two arrays with an entry for each cell. Nothing that follows in a translation looks at the bytes of the cells.
 use crate::mask_of;
 use rules::limit::NO_ROW;
 use rules::limit::NO_STATE;

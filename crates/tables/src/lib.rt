@@ -1,4 +1,4 @@
-// Checks a Rabin table, finds its components, and lays it out for a translation: nobody above looks at its bytes.
+// Checks a Rabin table, finds its components, and lays it out for a translation, which does not look at its bytes.
 // It rests on `rules` and on `components`: `check_table` and `find_components` keep the promises `CheckSays` and `ComponentsSay` of the rules, and
 // `lay_table` and `survey_cells` keep `LaySays` and `SurveySays` of this crate, for all bytes, sizes and arrays; `letters_of` reads the number of
 // letters, and `mask_of` joins the marks of a transition.
@@ -28,14 +28,14 @@ pub fn letters_of(table: &[u8]) -> u8
     table[1]
 }
 
-// The two sets of marks of a transition as one word, the required pairs above the prohibited ones: read, joined and tested at once.
+// The two sets of marks of a transition as one mask, the required pairs above the prohibited ones: read, joined and tested at once.
 pub fn mask_of(prohibited: u8, required: u8) -> u16
     ensures { λ r. ⌜ r ≡ required * 256 + prohibited ⌝ }
 {
     required as u16 * 256 + prohibited as u16
 }
 
-// The table's refusal, 1 to 6 in document 01's order, or 0 where the table is taken.
+// The table's refusal, 1 to 6 as in RULES, "Order", or 0 where the table is well formed.
 pub fn check_table(table: &[u8]) -> u8
     ensures { λ r. ⌜ CheckSays (now (table .entry)) r ⌝ }
 {

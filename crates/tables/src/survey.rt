@@ -41,7 +41,7 @@ fn pairs_of_state(n: usize, m: usize, targets: &[u16], marks: &[u16], homes: &[u
     let home = homes[q];
     let mut met = 0;
     let mut a = 0;
-    // met has what the letters below a make count
+    // met has the pairs that the letters below a make count
     while a < m {
         let stays = is_home(homes, n, home, targets[first + a]);
         met = met | kept(marks[first + a], stays);

@@ -1,12 +1,12 @@
 -- The codes of cells, from a table that is laid out and what was surveyed of it.
---     lay-fault            with room for the cells of a table that is formed, laying out refuses nothing but the table
---     few-cells, many-cells     there is such room in small arrays for a table of few bytes, in large ones for any
---     LaidTable t n m start ts ms, laid-table     what is laid out of a table that is formed: its sizes and its start, and its cells in the arrays
---     key-small, code-entered  the key at which a state is entered, by any set of pairs, and a code by such keys
---     rising-marked        the rising pairs of a state, from the set of the pairs that count
---     laid-fit, surveyed       there is room for the cells that are laid out where there is for the table's, and what a survey of them leaves
---     first-key, cells-room    the key of the first row, and room for the codes
---     code-laid, codes-written the code that the laid-out cells give a transition is the table's, and so are those of all cells
+--     lay-fault                   with room for the cells of a well-formed table, laying out refuses nothing but the table
+--     few-cells, many-cells       there is such room in small arrays for a table of few bytes, in large ones for any
+--     LaidTable t n m start ts ms, laid-table    what is laid out of a well-formed table: its sizes and its start, and its cells in the arrays
+--     key-small, code-entered     the key at which a state is entered, by any set of pairs, and a code by such keys
+--     rising-marked               the rising pairs of a state, from the set of the pairs that count
+--     laid-fit, surveyed          there is room for the cells that are laid out where there is for the table's, and what a survey of them leaves
+--     first-key, cells-room       the key of the first row, and room for the codes
+--     code-laid, codes-written    the code that the laid-out cells give a transition is the table's, and so are those of all cells
 use mathlib.Core.Path.{_≡_, refl, ap, _∙_}
 use mathlib.Core.Bool.{Bool, true, false, _&&_}
 use mathlib.Core.List.{List}

@@ -1,6 +1,6 @@
 -- The codes of a table's cells stand for its plan.
---     table-codes          the plan of the keys codes the table's
---     table-fit            the task can be explored where no array is too short
+--     table-codes    the plan of the keys codes the table's
+--     table-fit      the task can be explored where no array is too short
 use mathlib.Core.Path.{_≡_, refl, sym, ap, _∙_}
 use mathlib.Core.Bool.{Bool, true, false, _&&_, false≢true, and-false}
 use mathlib.Core.List.{List}

@@ -1,10 +1,10 @@
 -- From what the exploration found to what the translator promises.
---     kept-few, kept-sources   no more rows are kept than there is room for, and their source states are bytes
---     translate-refused        the table's own refusal
---     translate-short          the capacity or an array out of range
---     translate-nothing        either of the two
---     translate-explored       the rows were looked for, and the arrays cleared behind those that are kept
---     promised                 all promises, from the first
+--     kept-few, kept-sources    no more rows are kept than there is room for, and their source states are bytes
+--     translate-refused         the table's own refusal
+--     translate-short           the capacity or an array out of range
+--     translate-nothing         either of the two
+--     translate-explored        the rows were looked for, and the arrays cleared after those that are kept
+--     promised                  all promises, from the first
 use mathlib.Core.Path.{_≡_, refl, sym, ap, _∙_}
 use mathlib.Core.Bool.{Bool, true, false}
 use mathlib.Core.List.{List, [], append-nil, map}
@@ -80,7 +80,7 @@ translate-nothing bs c letters ts ps ss es short r m s f g =
         (λ h. let z : r ≡ Refusal.arrays = f ∙ rw (e, h) in rw z (translate-short bs c ts ps ss es e (rw m at (sym s ∙ h))))
         (λ h. absurd (g (f ∙ rw (e, h))))
 
--- a table that is formed, and the test of the arrays by its letters
+-- a well-formed table, and the test of the arrays by its letters
 module _ (bs : List ℕ) (letters c : ℕ) (ts ps ss es : List ℕ) (formed : WellFormed bs) (same-letters : letters ≡ tableOf bs .letters) where
   abbrev t : Table
   t = tableOf bs

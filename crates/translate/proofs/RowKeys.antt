@@ -1,8 +1,8 @@
 -- Rows as keys: the key of a row holds the row, and nothing else.
---     row-source, row-code, row-of-key     what the key of a row says of its state and its record, and that it stands for the row
---     row-pairs            every element of a row's record is the number of a pair that a place can hold
---     row-is-key           the key of a row is a key
---     entry-is-row, entry-small     the row by which a crossing enters at a state, and its record's code
+--     row-source, row-code, row-of-key    what the key of a row says of its state and its record, and that it stands for the row
+--     row-pairs                           every element of a row's record is the number of a pair that a place can hold
+--     row-is-key                          the key of a row is a key
+--     entry-is-row, entry-small           the row by which a crossing enters at a state, and its record's code
 use mathlib.Core.Path.{_≡_, sym, ap, _∙_}
 use mathlib.Core.List.{List}
 use Prim.Native.Nat.{ℕ, _≤_, _<_}

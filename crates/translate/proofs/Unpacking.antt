@@ -1,5 +1,5 @@
 -- One row more is unpacked.
---     unpacked-none, unpacked-more     no row is unpacked yet; one row more
+--     unpacked-none, unpacked-more    no row is unpacked yet; one row more
 use mathlib.Core.Path.{_≡_, _∙_}
 use mathlib.Core.List.{List}
 use Prim.Native.Nat.{ℕ, _+_, _<_}

@@ -1,19 +1,19 @@
 -- A table as a task for the exploration: its rule, letters and start, and a code for each cell.
---     cutMarks t q b       the pairs that pass b and count in q's component, as bits: bit i - 1 for pair i
---     entryKey t q         the key of the row by which a crossing enters at q
---     cellCode t q a       the code of the transition of q by a
---     taskOf t             what is explored
---     codeOf n x w h k hs e      the code of a transition with target x and marks w, where h is the home of its state and k the pairs that count there, by
---                                the homes hs of all states and the keys e at which they are entered
---     codeIn n m .. q a    the code of the transition of q by a, by the laid-out cells
---     risingKey q k        the key of the row at q with the pairs of the set k, rising
---     CellsRoom n m ..     the sizes are in range, and the arrays have an entry for each cell or each state
---     Written n m f cells  the cells hold what f says of their state and letter
---     TableCodes t cells   the codes of all cells, and nothing behind them
---     HasCells bs k        an array of k entries has room for the cells of the table that the bytes say, if it is formed
---     fewCells             the cells for which small arrays are enough
---     EncodeSays bs short cells number used start     encoding: the table's refusal, then 7 if `short`; else its codes in the first cells, and the
---                          key of the first row
+--     cutMarks t q b           number: the pairs that pass b and count in q's component, as bits: bit i - 1 for pair i
+--     entryKey t q             the key of the row by which a crossing enters at q
+--     cellCode t q a           the code of the transition of q by a
+--     taskOf t                 the task that is explored
+--     codeOf n x w h k hs e    the code of a transition with target x and mask w, where h is the home of its state and k the pairs that count
+--                              there, by the homes hs of all states and the keys e at which they are entered
+--     risingKey q k            the key of the row at q with the pairs of the set k, rising
+--     codeIn n m .. q a        the code of the transition of q by a, by the laid-out cells
+--     CellsRoom n m ..         claim: the sizes are in range, and the arrays have an entry for each cell or each state
+--     Written n m f cells      claim: the cells hold what f says of their state and letter
+--     TableCodes t cells       claim: the codes of all cells, and nothing after them
+--     HasCells bs k            claim: an array of k entries has room for the cells of the table that the bytes give, if it is well formed
+--     fewCells                 the cells for which small arrays are enough
+--     EncodeSays bs short cells number used start    claim: encoding: the table's refusal, then 7 if `short`; else its codes in the first
+--                              cells, and the key of the first row
 use mathlib.Core.Path.{_≡_}
 use mathlib.Core.Bool.{Bool, _&&_}
 use mathlib.Core.List.{List}

@@ -1,9 +1,9 @@
 -- Rows of a table's translation as keys: the memory is the record's code.
---     rowKey r             the key of a row
---     keyRow v             the row that a key stands for
---     numberIn v           its record's number
---     IsRow t r            r can stand in the translation of t: a state, with an ordering of the pairs that count in its component
---     IsKey t v            v is the key of such a row
+--     rowKey r      the key of a row
+--     keyRow v      the row that a key stands for
+--     numberIn v    its record's number
+--     IsRow t r     claim: r can be in the translation of t: a state, with an ordering of the pairs that count in its component
+--     IsKey t v     claim: v is the key of such a row
 use mathlib.Core.Path.{_≡_}
 use mathlib.Core.List.{List}
 use Prim.Native.Nat.{ℕ, _<_, _≤_}

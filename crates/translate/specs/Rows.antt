@@ -1,8 +1,8 @@
 -- What the caller is told of the rows.
---     Unpacked n ..            n rows are unpacked: the state of each in one array, the number of its record in place of its key
---     RowsLeft m n c ..        the same, and the rows from number n up to c are 0 in all four arrays
---     refusalOf x              document 01's refusal for an exploration's answer
---     rowsKept x               how many rows are kept: none if there are more than the capacity
+--     Unpacked n ..        claim: n rows are unpacked: the state of each in one array, the number of its record in place of its key
+--     RowsLeft m n c ..    claim: the same, and the rows from number n up to c are 0 in all four arrays
+--     refusalOf x          the refusal for an exploration's answer
+--     rowsKept x           number: how many rows are kept, none if there are more than the capacity
 use mathlib.Core.Path.{_≡_}
 use mathlib.Core.List.{List}
 use Prim.Native.Nat.{ℕ, _*_, _<_}

@@ -1,4 +1,4 @@
-// A laid-out table as a task for the exploration: the key by which each state is entered, and a code for each cell.
+// A laid-out table as a task for the exploration: the key at which each state is entered, and a code for each cell.
 use explore::codes::CROSSING;
 use explore::codes::INSIDE;
 use explore::codes::SPAN;
@@ -37,7 +37,7 @@ fn cell_code(
     CROSSING + entries[state]
 }
 
-// The state of cell c: the next one behind q where q's cells end.
+// The state of cell c: the one after q where q's cells end.
 fn state_at(m: usize, q: usize, c: usize) -> usize
     requires { ⌜ (0 < m) × (m ≤ maxLetters) × (q ≤ maxStates) × (c ≤ maxStates * maxLetters) × (q * m ≤ c) × (c ≤ q * m + m) ⌝ }
     ensures { λ r. ⌜ (r * m ≤ c) × (c < r * m + m) ⌝ }
@@ -78,7 +78,7 @@ pub(crate) fn write_codes(
     let used = n * m;
     let mut q = 0;
     let mut c = 0;
-    // the codes of the cells below c are written, and c is a cell of q or follows them
+    // the codes of the cells below c are written, and c is a cell of q or the one after them
     while c < used {
         q = state_at(m, q, c);
         cells[c] = cell_code(

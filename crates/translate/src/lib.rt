@@ -86,7 +86,7 @@ fn translate_in(
         start,
     };
     let used = encoded.used;
-    // the keys of the rows stand in the array of record numbers until they are unpacked
+    // the keys of the rows are in the array of record numbers until they are unpacked
     let explored = find_rows(task, &cells[..used], capacity, records, targets, priorities);
     let told = told(explored);
     let number = told.number;

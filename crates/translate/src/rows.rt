@@ -1,5 +1,5 @@
-// From keys to what the caller is told of each row, and zeros behind the rows that are kept. Each `clear_` function clears the places from `from`
-// up to `to`, one function for each width and one array in a loop: two in one loop take three times as long.
+// From keys to what the caller is told of each row, and zeros in the rows after those that are kept. Each `clear_` function clears the places from
+// `from` up to `to`, one function for each width and one array per loop: two arrays in one loop take three times as long.
 use explore::codes::SPAN;
 use records::Record;
 ghost use Prim.Native.Nat.{ℕ, _*_, _<_, _≤_};
@@ -64,7 +64,7 @@ fn clear_u32(array: &mut [u32], from: usize, to: usize)
     }
 }
 
-// Unpacks the first rows, and clears those behind them up to the capacity, in all four arrays of a parity table.
+// Unpacks the first rows, and clears those after them up to the capacity, in all four arrays of a parity table.
 pub(crate) fn leave_rows(
     m: usize,
     rows: usize,

@@ -3,7 +3,7 @@
 //!
 //! `bench` runs everything; `bench a` to `bench d` run one part, `bench quick` all parts
 //! shortened. `bench profile-translate`, `bench profile-tiny`, `bench profile-parity` and
-//! `bench profile-rabin` only run the proved side, for a profiler, or the tuned one if the word
+//! `bench profile-rabin` only run the proved side, for a profiler, or the tuned one if the argument
 //! `tuned` follows. The environment variable SEED sets the seed.
 
 use std::hint::black_box;
@@ -90,7 +90,7 @@ const MOST_ROWS: usize = 4_096;
 /// The longest loop or lead-in.
 const LONGEST: usize = 65_535;
 
-/// The two-state table of document 01.
+/// The two-state table T of docs/RULES.md.
 const CARD: [u8; 16] = [2, 2, 2, 0, 0, 1, 0, 1, 1, 2, 0, 0, 0, 1, 2, 0];
 
 /// How long to measure.
@@ -121,7 +121,7 @@ impl Buffers {
         }
     }
 
-    /// Fills all arrays with what no translation leaves behind.
+    /// Fills all arrays with values that no translation leaves.
     fn scribble(&mut self) {
         self.targets.fill(0xABCD);
         self.priorities.fill(0xEE);
@@ -451,7 +451,7 @@ fn draw_paper_table(random: &mut Random) -> Vec<u8> {
     table
 }
 
-/// What a composed table looks like: components of so many states with so many pairs, one behind
+/// What a composed table looks like: components of so many states with so many pairs, one after
 /// the other, then single states; marks are drawn for every transition or once for a state.
 #[derive(Clone)]
 struct Shape {
@@ -619,7 +619,7 @@ fn bench_rabin(
     line_of_judgement(case, table[0] as usize, table[1] as usize, read, &times);
 }
 
-/// A complete parity table in vectors of its own size.
+/// A complete parity table in vectors cut to its size.
 struct Parity {
     rows: usize,
     letters: usize,
@@ -1270,7 +1270,7 @@ fn part_d(random: &mut Random, effort: Effort) {
     println!("\n    summary (d): largest p/tuned {largest:.2}");
 }
 
-/// Reads the words of the command line and runs the parts they name.
+/// Reads the arguments of the command line and runs the parts they name.
 fn main() {
     let words: Vec<String> = std::env::args().skip(1).collect();
     let known = [

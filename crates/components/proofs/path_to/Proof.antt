@@ -1,4 +1,4 @@
--- `components::path_to` meets its contract. The invariant: what was before begin stands; and where the places met lead to earlier ones, the
+-- `components::path_to` meets its contract. The invariant: the entries before begin are untouched; and where the places met lead to earlier ones, the
 -- letters from begin on lead from the state at place i to that at the place asked for.
 use mathlib.Core.Path.{_≡_, refl}
 use mathlib.Core.Bool.{true, not, _&&_}

@@ -1,4 +1,4 @@
--- `exported::answer_of` meets its contract: each arm knows its case, and `answerOf` gives the number and the value of that case.
+-- `exported::answer_of` meets its contract: each arm knows its case, and `answerOf` gives the kind and the value of that case.
 use mathlib.Core.Path.{sym, ap}
 use borrow.Author.Needs.{needs}
 use Rattle.judge.specs.Judgements.{answerOf}

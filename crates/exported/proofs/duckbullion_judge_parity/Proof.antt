@@ -1,4 +1,4 @@
--- `exported::duckbullion_judge_parity` meets its contract: the judge's answer, by its number and value.
+-- `exported::duckbullion_judge_parity` meets its contract: the judge's answer, by its kind and value.
 use borrow.Author.Needs.{needs}
 use Rattle.exported.proofs.duckbullion_judge_parity.Statement.{statement}
 use Rattle.exported.proofs.duckbullion_judge_parity.Tie as tie

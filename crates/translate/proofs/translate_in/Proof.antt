@@ -17,7 +17,7 @@ returns : tie.Need-returns
 returns c =
     promised (translate-nothing _ _ _ _ _ _ _ _ _ (c .before .before .before .before .before .before .letters-of .ensures) (c .before .before .before .before .before .are-short .ensures) (c .before .before .before .encode-table .ensures .refusal) (c .if1 .taken))
 
--- the table is formed and encoded, and the arrays are long enough
+-- the table is well formed and encoded, and the arrays are long enough
 module _ (c : tie.Else1) where
   abbrev lent : tie.Start
   lent = c .before .before .before .before .before .before .before .before .before .before .before .before .before

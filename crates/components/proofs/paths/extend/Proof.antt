@@ -24,7 +24,7 @@ module _ (s : tie.Start) where
   cells : s .args .q * s .args .m + s .args .m ≤ length (s .args .targets .now)
   cells = omega (arith, row-ends (s .args .n) (s .args .m) (s .args .q) state, s .pre .0 .cell-room)
 
-  -- where the next letter of q stands
+  -- where the next letter of q is
   entry : (4 * s .args .n + s .args .q < length (s .args .work .now)) × (4 * s .args .n + s .args .q < 5 * doneNumber)
   entry = (omega (arith, state, s .pre .0 .work-room), omega (arith, state, s .pre .0 .small))
 

@@ -30,7 +30,7 @@ module _ (c : tie.In-loop Inv-loop μ-loop) where
   abbrev t : tie.At-loop Inv-loop μ-loop
   t = c .before
 
-  -- the state that stands there
+  -- the state at that place
   is : at (t .loop .work) (s .args .n + t .loop .i) ≡ at (stackIn (s .args .n) (s .args .work .now)) (t .loop .i)
   is =
       sym (part-at (s .args .n) (s .args .n) (t .loop .i) (t .loop .work) (omega (arith, c .loop-test .taken, s .pre .1)))

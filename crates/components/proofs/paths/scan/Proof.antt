@@ -24,7 +24,7 @@ abbrev μ-loop : tie.MeasureT-loop
 third : (n : ℕ) → 3 * n - 2 * n ≡ n
 third n = omega arith
 
--- a row's cells are among the targets
+-- a state's cells are among the targets
 row : (s : tie.Start Inv-loop μ-loop) → s .args .q * s .args .m + s .args .m ≤ length (s .args .targets .now)
 row s = omega (arith, row-ends (s .args .n) (s .args .m) (s .args .q) (s .pre .0), s .pre .1)
 

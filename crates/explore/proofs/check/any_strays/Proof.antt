@@ -1,4 +1,4 @@
--- `explore::check::any_strays` meets its contract. The invariant: what was found so far, or is still to be found from code i on, is what is to be found.
+-- `explore::check::any_strays` meets its contract. The invariant: some code strays exactly if `found` says so or one from i on does.
 use borrow.Author.Needs.{needs}
 use mathlib.Core.Path.{_≡_, refl, _∙_}
 use mathlib.Core.Bool.{_||_}

@@ -9,7 +9,7 @@ use Rattle.explore.specs.Effects.{effectBy}
 use Rattle.explore.proofs.effects.effect_by_pairs.Statement.{statement}
 use Rattle.explore.proofs.effects.effect_by_pairs.Tie as tie
 
--- the word after the move is small
+-- the code after the move is small
 small : (c : tie.After-moved) → c .moved .result .code < span
 small c =
     let s = c .before .args in

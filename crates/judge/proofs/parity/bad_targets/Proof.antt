@@ -1,4 +1,4 @@
--- `judge::parity::bad_targets` meets its contract. The invariant: what was found so far, or is still to be found from cell c on, is what is to be found.
+-- `judge::parity::bad_targets` meets its contract. The invariant: some target is wrong exactly if `bad` says so or one from c on is.
 use mathlib.Core.Path.{_≡_, refl, _∙_}
 use mathlib.Core.Bool.{_||_}
 use Prim.Native.Nat.{_-_, _≤_}

@@ -1,4 +1,4 @@
--- `judge::parity::judge_word` meets its contract. The invariant: the word is underway, and of each pass the largest priority is noted.
+-- `judge::parity::judge_word` meets its contract. The invariant: the word is underway, and of each pass the largest priority is kept.
 use mathlib.Core.Path.{_≡_, refl, sym, ap, _∙_}
 use Prim.Native.Nat.{ℕ, _-_, _+_, _*_, _%_, _≤_, _<_}
 use native.Mathlib.Nat.{not-suc-le-zero}

@@ -54,7 +54,7 @@ module _ (c : tie.In-loop Inv-loop μ-loop) where
   within : place * s .args .letters + letter < s .args .rows * s .args .letters
   within = cell-within _ _ _ _ (c .before .loop .inv .1) letter-ok
 
-  -- what stands in the letter's column is where the transition goes
+  -- the entry in the letter's column is where the transition goes
   abbrev found : ℕ
   found = getD (take (length (s .args .targets .now) - letter) (drop letter (s .args .targets .now))) (place * s .args .letters) 0
 

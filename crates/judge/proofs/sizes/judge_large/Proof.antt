@@ -1,4 +1,4 @@
--- `judge::sizes::judge_large` meets its contract: a table that is taken has no more rows than its arrays have room for.
+-- `judge::sizes::judge_large` meets its contract: a well-formed table has no more rows than its arrays have room for.
 use borrow.Author.Needs.{needs}
 use Rattle.rules.specs.Limits.{maxRows}
 use Rattle.rules.proofs.Filling.{zeros-at}

@@ -1,4 +1,4 @@
--- `judge::words::has_stray` meets its contract. The invariant: what was found so far, or is still to be found from byte i on, is what is to be found.
+-- `judge::words::has_stray` meets its contract. The invariant: some byte is no letter exactly if `stray` says so or one from i on is none.
 use mathlib.Core.Path.{_≡_, refl, _∙_}
 use mathlib.Core.Bool.{_||_}
 use Prim.Native.Nat.{_-_, _≤_}

@@ -1,4 +1,4 @@
--- `judge_rabin::cells::marks_at` meets its contract: behind the targets stand two bytes for each cell.
+-- `judge_rabin::cells::marks_at` meets its contract: after the targets there are two bytes for each cell.
 use mathlib.Core.Path.{_≡_}
 use Prim.Native.Nat.{_+_, _*_, _<_}
 use native.Mathlib.Omega.{arith}

@@ -1,4 +1,4 @@
--- `judge_rabin::cells::start_of` meets its contract: a table that is taken has the byte.
+-- `judge_rabin::cells::start_of` meets its contract: a well-formed table has the byte.
 use borrow.Author.Needs.{needs}
 use native.Mathlib.Omega.{arith}
 use Rattle.rules.proofs.Refusals.{table-facts}

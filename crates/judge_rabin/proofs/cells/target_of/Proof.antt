@@ -1,4 +1,4 @@
--- `judge_rabin::cells::target_of` meets its contract: in the letter's column the state's row has the target.
+-- `judge_rabin::cells::target_of` meets its contract: in the letter's column the target is at the state's first cell.
 use mathlib.Core.Path.{_≡_, sym, _∙_}
 use Prim.Native.Nat.{_+_, _-_, _*_, _<_}
 use native.Mathlib.Omega.{arith}

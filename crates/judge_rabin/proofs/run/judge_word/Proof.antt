@@ -1,4 +1,4 @@
--- `judge_rabin::run::judge_word` meets its contract. The invariant: the word is underway, and of each pass the pairs that it meets are noted.
+-- `judge_rabin::run::judge_word` meets its contract. The invariant: the word is underway, and of each pass the pairs prohibited and required are kept.
 use mathlib.Core.Path.{_≡_, refl, sym, ap, _∙_}
 use mathlib.Core.Bool.{Bool, not}
 use Prim.Native.Nat.{_-_, _+_, _*_, _≤_, _<_}
@@ -77,7 +77,7 @@ counted c =
     let missed = misses-within _ _ _ _ (c .before .before .before .read-piece2 .ensures .0 .misses (rw (states-are a) at (c .before .if2 .taken))) in
     omega (arith, few a, missed, word (start a) .most-loop)
 
--- the next pass begins where an earlier one began: the pairs that the passes between meet decide
+-- the next pass begins where an earlier one began: the marks of the passes between decide
 module _ (c : tie.After-loop Inv-loop μ-loop) where
   between : c .before .loop .first - 1 < c .before .loop .pass
   between = round-earlier (c .before .loop .inv .0) (c .loop-test .left)

@@ -1,4 +1,4 @@
--- `judge_rabin::run::read_piece` meets its contract. The invariant: the first i letters lead to the place, and the marks met on the way are kept.
+-- `judge_rabin::run::read_piece` meets its contract. The invariant: the first i letters lead to the place, and the marks on the way are gathered.
 use mathlib.Core.Path.{_≡_}
 use mathlib.Core.List.{List}
 use Prim.Native.Nat.{ℕ, _+_, _-_, _/_, _%_, _^_, _<_, _≤_}

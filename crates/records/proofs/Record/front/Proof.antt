@@ -1,4 +1,4 @@
--- `records::Record::front` meets its contract. The invariant: the code holds those of the set behind position p.
+-- `records::Record::front` meets its contract. The invariant: the code holds the pairs of the set past position p.
 use mathlib.Core.Path.{_≡_, refl, ap, _∙_}
 use Prim.Native.Nat.{ℕ, _-_, _≤_}
 use native.Mathlib.Omega.{arith}

@@ -1,4 +1,4 @@
--- `records::Record::number` meets its contract. The invariant: the number still has room for a digit, and with the pairs from position p on behind it
+-- `records::Record::number` meets its contract. The invariant: the number still has room for a digit, and followed by the pairs from position p on
 -- it is the whole number.
 use mathlib.Core.Path.{_≡_, refl, sym, ap, _∙_}
 use mathlib.Core.List.{List, _∷_}

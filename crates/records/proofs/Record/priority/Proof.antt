@@ -1,4 +1,4 @@
--- `records::Record::priority` meets its contract. The invariant: what is still to be decided from position p on is what is to be decided.
+-- `records::Record::priority` meets its contract. The invariant: the positions from p on make of `best` the whole priority.
 use mathlib.Core.Path.{_≡_, refl, sym, ap, _∙_}
 use mathlib.Core.List.{List, _∷_}
 use Prim.Native.Nat.{ℕ, _-_}

@@ -1,5 +1,5 @@
--- `records::Record::rear` meets its contract. The invariant: what is still to go into the last place from position p on makes of the code what
--- all places make of none.
+-- `records::Record::rear` meets its contract. The invariant: the positions from p on make of the code what
+-- all positions make of the empty one.
 use mathlib.Core.Path.{_≡_, refl, sym, ap, _∙_}
 use mathlib.Core.Bool.{Bool, not}
 use mathlib.Core.List.{List, _∷_}

@@ -1,4 +1,4 @@
--- `tables::survey::write_counted` meets its contract: what each component meets is gathered, and each state gets its component's.
+-- `tables::survey::write_counted` meets its contract: what counts in each component is gathered, and each state gets its component's.
 use borrow.Author.Needs.{needs}
 use mathlib.Core.Path.{ap, _∙_}
 use mathlib.Core.List.{List}

@@ -1,4 +1,4 @@
--- `translate::cells::write_codes` meets its contract. The invariant: the codes of the cells below c are written, and c is a cell of q or follows them.
+-- `translate::cells::write_codes` meets its contract. The invariant: the codes of the cells below c are written, and c is a cell of q or the one after them.
 use borrow.Author.Needs.{needs}
 use mathlib.Core.Path.{_≡_, refl, _∙_}
 use Prim.Native.Nat.{ℕ, _+_, _-_, _*_, _≤_, _<_}
@@ -25,7 +25,7 @@ abbrev μ-loop : tie.MeasureT-loop
 few : (s : tie.Start Inv-loop μ-loop) → s .args .n * s .args .m ≤ maxStates * maxLetters
 few s = mul-le-mul (s .pre .0 .few-states) (s .pre .0 .few-letters)
 
--- a row that begins before the cell is a state's
+-- a number whose cells begin no later than this one is a state
 state-below : (c : tie.In-loop Inv-loop μ-loop) (q : ℕ) → let a = c .before .before .before .before .before .before .before .before .before .before .args in q * a .m ≤ c .before .loop .c → q < a .n
 state-below c q l = lt-of-mul-lt-mul-right (c .before .before .before .before .before .before .before .before .before .before .args .m) (omega (arith, l, c .loop-test .taken))
 

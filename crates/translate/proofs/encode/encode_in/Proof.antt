@@ -38,7 +38,7 @@ returns c =
     let n = c .refused-with .ensures in
     record { refusal = n ∙ first-some _ _ (refusal l) (c .before .if1 .taken); task = λ z. absurd (c .before .if1 .taken (sym n ∙ z)) }
 
--- the table is formed
+-- the table is well formed
 module _ (c : tie.Else1) where
   abbrev lay : tie.After-lay-table
   lay = c .before .before .before .before .before .before
