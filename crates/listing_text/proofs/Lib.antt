@@ -1,4 +1,3 @@
 -- The laws behind the writers' proofs, bottom first.
 pub mod Writing
-pub mod Bounds
 pub mod Promises

@@ -1,50 +1,32 @@
 -- From what the translator promises to what the listing promises.
---     taken-translation          where nothing is refused, the table is taken and its rows are within document 01's range
 --     front-length, front-at     on success an array begins with what the translator found
 --     lines-same                 lines over arrays that agree where they are read
 --     success                    what the translator promises, where its number is 0; then:
---     taken                      the table is taken
+--     taken                      the table and the arrays are taken
 --     shown                      there is room in the arrays for the rows
---     listing-done               the listing is the head and the lines of the arrays as they are left
---     listing-refused            on a refusal the listing is its line
+--     listing-done, done-reach   the listing is the head and the lines of the arrays as they are left, and is in reach
+--     listing-refused, refused-reach     on a refusal the listing is its line, and is in reach
 --     listing-says               the promise, where the listing is the text that was written
 use mathlib.Core.Path.{_≡_, sym, ap, _∙_}
-use mathlib.Core.Bool.{_||_}
 use mathlib.Core.List.{List, _++_, append-assoc}
-use Prim.Native.Nat.{ℕ, _*_, _≤_, _<_}
-use native.Mathlib.Nat.{le-trans}
+use Prim.Native.Nat.{ℕ, _*_, _≤_, _<_, min}
+use native.Mathlib.Nat.{le-trans, mul-le-mul}
 use native.Mathlib.Omega.{arith}
-use lib.Dec.{eqb, ltb}
 use lib.ListN.{length, getD, length-append, length-map, List·getD-append}
-use borrow.Author.Tests.{ltb-false, ne-eqb}
-use Rattle.rules.specs.Basics.{firstOf, when}
-use Rattle.rules.specs.Limits.{maxRows, noRow}
-use Rattle.rules.specs.Refusals as Refusal
+use borrow.Author.Tests.{ne-eqb}
+use Rattle.rules.specs.Limits.{maxLetters, maxRows, noRow}
 use Rattle.rules.specs.Systems.{cell}
 use Rattle.rules.specs.Records.{decimal}
 use Rattle.rules.specs.Rows.{targetNumber}
-use Rattle.rules.specs.Tables.{tableOf, tableFault, tablePlan}
-use Rattle.rules.specs.Claims.{tableRows, rowTargets, rowPriorities, sourceStates, recordNumbers, exceeds}
-use Rattle.rules.specs.Says.{areShort, arraysFault, translateFault, afterwards, TranslateSays, rowArrays}
+use Rattle.rules.specs.Tables.{tableOf, tablePlan}
+use Rattle.rules.specs.Claims.{tableRows, rowTargets, rowPriorities, sourceStates, recordNumbers}
+use Rattle.rules.specs.Says.{afterwards, TranslateSays, rowArrays}
 use Rattle.rules.specs.Listings.{lineAt, rowLines, linesAt, lines, head, refusalLine, tableListing, listing, ListingSays}
-use Rattle.rules.proofs.Bools.{or-none}
 use Rattle.rules.proofs.Arrays.{cells-length, row-ends}
 use Rattle.rules.proofs.Texts.{each-same}
-use Rattle.rules.proofs.Refusals.{TableFacts, first-zero, first-none, when-none, table-facts}
-use Rattle.listing_text.specs.Writing.{Wrote, Shown}
-
--- ---- nothing is refused
-taken-translation : (bs : List ℕ) (c a b d e : ℕ) → translateFault bs c a b d e ≡ 0 → TableFacts bs × (length (tableRows bs c) ≤ maxRows)
-unfolding translateFault
-taken-translation bs c a b d e z =
-    let m = tableOf bs .letters in
-    let full = exceeds bs c in
-    let arrays = ltb a (c * m) || (ltb b (c * m) || (ltb d c || ltb e c)) in
-    let r = first-zero (tableFault bs) (firstOf (arraysFault c m a b d e) (when full Refusal.full)) z in
-    let u = first-none (areShort c m a b d e) 6 (when full Refusal.full) (r .1) in
-    let v = or-none (eqb c 0) (ltb maxRows c || arrays) (u .0) in
-    let w = or-none (ltb maxRows c) arrays (v .1) in
-    (table-facts bs (r .0), le-trans (ltb-false c _ (when-none full 7 (u .1))) (ltb-false maxRows c (w .0)))
+use Rattle.rules.proofs.Refusals.{TakenTranslation, taken-translation, translation-below}
+use Rattle.rules.proofs.ListingBounds.{refused-length, listing-bound}
+use Rattle.listing_text.specs.Writing.{InReach, Wrote, Shown}
 
 -- ---- the fronts of the arrays
 module _ (k : ℕ) (xs o o′ : List ℕ) (e : o′ ≡ afterwards 0 k xs o) where
@@ -91,15 +73,15 @@ module _ {bs : List ℕ} {c : ℕ} {ts ts′ ps ps′ ss ss′ es es′ : List �
   record-length : length (recordNumbers bs c) ≡ rows
   record-length = length-map (tableRows bs c) (λ r. decimal (r .memory)) ∙ sym (says .count)
 
-  pub taken : TableFacts bs
-  taken = taken-translation bs c (length ts) (length ps) (length ss) (length es) (sym (says .refusal)) .0
+  pub taken : TakenTranslation bs c (length ts) (length ps) (length ss) (length es)
+  taken = taken-translation bs c (length ts) (length ps) (length ss) (length es) (sym (says .refusal))
 
   pub shown : Shown rows (tableOf bs .letters) ts′ ps′ ss′ es′
   shown =
       let k = c * tableOf bs .letters in
       record {
-        most-rows = rw (says .count) (taken-translation bs c (length ts) (length ps) (length ss) (length es) (sym (says .refusal)) .1);
-        most-letters = taken .sizes .most-letters;
+        most-rows = rw (says .count) (le-trans (taken .rows-fit) (taken .arrays .most-rows));
+        most-letters = taken .table .sizes .most-letters;
         target-cells = omega (arith, target-length, front-length k (rowTargets bs c) ts ts′ (says .target-array));
         priority-cells = omega (arith, priority-length, front-length k (rowPriorities bs c) ps ps′ (says .priority-array));
         states = omega (arith, state-length, front-length c (sourceStates bs c) ss ss′ (says .source-array));
@@ -120,11 +102,19 @@ module _ {bs : List ℕ} {c : ℕ} {ts ts′ ps ps′ ss ss′ es es′ : List �
   unfolding listing tableListing
   listing-done = rw (← says .refusal, ← says .count, as-found)
 
+  pub done-reach : InReach 0 (head rows (tableOf bs .letters) (tableOf bs .pairs) ++ lines rows (tableOf bs .letters) ts′ ps′ ss′ es′)
+  done-reach =
+      let cells : c * min (tableOf bs .letters) maxLetters ≤ maxRows * maxLetters = mul-le-mul {m₂ = maxLetters} (taken .arrays .most-rows) (omega arith) in
+      record { ends = omega (arith, ap length listing-done, listing-bound bs c (length ts) (length ps) (length ss) (length es)) }
+
 -- ---- both outcomes
 module _ {bs : List ℕ} {c : ℕ} {ts ts′ ps ps′ ss ss′ es es′ : List ℕ} {number rows : ℕ} (says : TranslateSays bs c (rowArrays ts ps ss es) (rowArrays ts′ ps′ ss′ es′) number rows) where
   pub listing-refused : (number ≡ 0 → ⊥) → listing bs c (length ts) (length ps) (length ss) (length es) ≡ refusalLine number
   unfolding listing
   listing-refused ne = rw (← says .refusal, ne-eqb number 0 ne)
+
+  pub refused-reach : InReach 0 (refusalLine number)
+  refused-reach = record { ends = omega (arith, says .refusal, refused-length number (rw (says .refusal) (translation-below bs c (length ts) (length ps) (length ss) (length es)))) }
 
   pub listing-says : {o o′ t : List ℕ} {r : ℕ} → listing bs c (length ts) (length ps) (length ss) (length es) ≡ t → Wrote 0 t o o′ r → ListingSays bs c (rowArrays ts ps ss es) (rowArrays ts′ ps′ ss′ es′) o o′ r
   listing-says is w =
@@ -132,4 +122,5 @@ module _ {bs : List ℕ} {c : ℕ} {ts ts′ ps ps′ ss ss′ es es′ : List �
         arrays = rw (says .refusal) at (rw (says .count) at says);
         text = rw is (w .contents);
         size = omega (arith, w .next, ap length is);
+        bound = omega (arith, w .next, ap length is, listing-bound bs c (length ts) (length ps) (length ss) (length es));
       }

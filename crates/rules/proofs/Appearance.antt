@@ -6,7 +6,9 @@
 --     after-moved                    behind a pair that is not prohibited a move only drops the prohibited ones
 --     drop-moved                     a tail in which nothing is prohibited stays as it is
 --     priority-none, priority-last, priority-is     the last pair with either mark decides the priority
+--     once-length                    a list of different numbers from 1 to k has at most k
 --     with-bounds                    one pair more cannot lower the priority found, nor lift it past its own position
+--     priority-bound                 a priority is at most 2p + 1, p the length of the record
 --     scan-*                         what the search for the priority can find, from any position on
 --     even-satisfied, satisfied-even the two halves of the theorem
 --     moved-same, priority-same      tests that agree on a record's pairs move it alike and give it the same priority
@@ -105,6 +107,26 @@ pub occurs-append : (x : ℕ) (o o′ : List ℕ) → occurs x (o ++ o′) ≡ o
 occurs-append x [] o′ = omega arith
 occurs-append x (i ∷ o) o′ = by (eqb x i) (λ e. rw e (omega (arith, occurs-append x o o′))) (λ e. rw e (occurs-append x o o′))
 
+-- different numbers from 1 to k
+occurs-kept : (x : ℕ) (o : List ℕ) → length (keep (eqb x) o) ≡ occurs x o
+occurs-kept x [] = refl
+occurs-kept x (i ∷ o) = by (eqb x i) (λ e. rw e (ap suc (occurs-kept x o))) (λ e. rw e (occurs-kept x o))
+
+pub once-length : (k : ℕ) (o : List ℕ) → occurs 0 o ≡ 0 → ((i : ℕ) → occurs i o ≤ 1) → ((i : ℕ) → k < i → occurs i o ≡ 0) → length o ≤ k
+once-length zero [] z once none = omega arith
+once-length zero (zero ∷ o) z once none = absurd (omega arith)
+once-length zero (suc i ∷ o) z once none = let self = eq-eqb (suc i) (suc i) refl in absurd (omega (arith, rw self at (none (suc i) (omega arith))))
+once-length (suc k) o z once none =
+    let fewer = once-length k (others (eqb (suc k)) o) (omega (arith, kept-occurs (eqb (suc k)) 0 o)) (λ i. omega (arith, kept-occurs (eqb (suc k)) i o, once i)) below in
+    omega (arith, kept-length (eqb (suc k)) o, occurs-kept (suc k) o, once (suc k))
+  where
+    below : (i : ℕ) → k < i → occurs i (others (eqb (suc k)) o) ≡ 0
+    below i l =
+        by
+        (eqb (suc k) i)
+        (λ e. none-occurs i (others (eqb (suc k)) o) (keep-free (λ j. not (eqb (suc k) j)) i o (rw e)))
+        (λ e. omega (arith, kept-occurs (eqb (suc k)) i o, none i (omega (arith, eqb-false (suc k) i e))))
+
 -- a priority as it looks from position q: even, or below 2q, and not below where the pair at q is required
 record SeenFrom (q r : ℕ) (required : Bool) : Type 0 where
   even-or-below : (isEven r ≡ true) ⊎ (r < 2 * q)
@@ -164,6 +186,13 @@ module _ (m : Marks) where
   with-bounds : (p i best : ℕ) → best < 2 * p → (best ≤ priorityWith p m i best) × (priorityWith p m i best < 2 * suc p)
   with-bounds p i best h =
       by (m .prohibited i) (λ e. rw e (omega arith)) (λ e. rw e (by (m .required i) (λ f. rw f (omega arith)) (λ f. rw f (omega arith))))
+
+  scan-below : (o : List ℕ) (p best : ℕ) → best < 2 * p → priorityFrom p m o best < 2 * (p + length o)
+  scan-below [] p best h = omega arith
+  scan-below (i ∷ o) p best h = omega (arith, scan-below o (suc p) (priorityWith p m i best) (with-bounds p i best h .1))
+
+  pub priority-bound : (o : List ℕ) → priority m o ≤ 2 * length o + 1
+  priority-bound o = omega (arith, scan-below o 1 1 (omega arith))
 
   pub scan-keeps : (o : List ℕ) (p best : ℕ) → best < 2 * p → best ≤ priorityFrom p m o best
   scan-keeps [] p best h = omega arith

@@ -1,22 +1,23 @@
 -- Demand 3 for the tables of document 01, and for the arrays that the translator leaves.
 --     demands          every table that is translated agrees with its translation, whatever stands behind the rows
+--     success-front    what the translator found is the front of an array
 --     says-agrees      a translator that keeps its promise leaves arrays that agree with the table
-use mathlib.Core.Path.{_≡_, sym, _∙_}
-use mathlib.Core.Bool.{false, not, _&&_, _||_}
-use mathlib.Core.List.{List, _++_, append-assoc}
+--     says-judged      and are judged as the rows alone are
+use mathlib.Core.Path.{_≡_, refl, sym, _∙_}
+use mathlib.Core.Bool.{false, not, _&&_}
+use mathlib.Core.List.{List, [], _++_, append-assoc, append-nil}
 use Prim.Native.Nat.{ℕ, _-_, _*_, _≤_}
-use lib.Dec.{eqb, ltb, leb}
-use lib.ListN.{length, drop, replicate}
-use borrow.Author.Tests.{eqb-true, ltb-false, leb-true, not-true}
-use Rattle.rules.specs.Basics.{firstOf, when}
+use lib.Dec.{eqb, leb}
+use lib.ListN.{length, take, drop, replicate}
+use lib.Seq.{take-at}
+use borrow.Author.Tests.{eqb-true, leb-true, not-true}
 use Rattle.rules.specs.Limits.{maxRows}
-use Rattle.rules.specs.Refusals as Refusal
 use Rattle.rules.specs.Tables.{tableOf, tableFault, systemOf, recordKeeper, IsOrdering}
-use Rattle.rules.specs.Judges.{satisfies}
+use Rattle.rules.specs.Judges.{satisfies, parityJudge}
 use Rattle.rules.specs.Claims.{tableRows, rowTargets, rowPriorities, sourceStates, exceeds, Agrees, Demands}
-use Rattle.rules.specs.Says.{afterwards, arraysFault, translateFault, TranslateSays, TranslationAgrees, rowArrays}
-use Rattle.rules.proofs.Bools.{or-none, and-parts}
-use Rattle.rules.proofs.Refusals.{first-none, first-zero, when-none, table-facts}
+use Rattle.rules.specs.Says.{afterwards, TranslateSays, TranslationAgrees, rowArrays}
+use Rattle.rules.proofs.Bools.{and-parts}
+use Rattle.rules.proofs.Refusals.{table-facts, taken-translation}
 use Rattle.rules.proofs.Demand3.{demand-3}
 use Rattle.rules.proofs.RabinTables.{rabin-lawful}
 
@@ -50,21 +51,25 @@ unfolding behind
 after-success number k xs o o′ z e =
     sym (append-assoc xs (replicate (k - length xs) 0) (drop (length (xs ++ replicate (k - length xs) 0)) o)) ∙ sym (rw z at e)
 
+pub success-front : (number k : ℕ) (xs o o′ : List ℕ) → number ≡ 0 → o′ ≡ afterwards number k xs o → take (length xs) o′ ≡ xs
+success-front number k xs o o′ z e = rw (← after-success number k xs o o′ z e) (take-at xs (behind k xs o) (length xs) refl)
+
 pub says-agrees : (bs : List ℕ) (c : ℕ) (ts ts′ ps ps′ ss ss′ es es′ : List ℕ) (number count : ℕ)
     → TranslateSays bs c (rowArrays ts ps ss es) (rowArrays ts′ ps′ ss′ es′) number count → TranslationAgrees bs ts′ ps′ ss′ number count
-unfolding translateFault
 says-agrees bs c ts ts′ ps ps′ ss ss′ es es′ number count says z =
-    let t = tableOf bs in
-    let k = c * t .letters in
-    let full = exceeds bs c in
-    let bad = ltb maxRows c || (ltb (length ts) k || (ltb (length ps) k || (ltb (length ss) c || ltb (length es) c))) in
-    let r = first-zero (tableFault bs) (firstOf (arraysFault c (t .letters) (length ts) (length ps) (length ss) (length es)) (when full Refusal.full)) (sym (says .refusal) ∙ z) in
-    let u = first-none (eqb c 0 || bad) 6 (when full Refusal.full) (r .1) in
-    let v = or-none (eqb c 0) bad (u .0) in
-    let w = or-none (ltb maxRows c) (ltb (length ts) k || (ltb (length ps) k || (ltb (length ss) c || ltb (length es) c))) (v .1) in
-    let all = agrees bs c (r .0) (ltb-false maxRows c (w .0)) (when-none full 7 (u .1)) (behind k (rowTargets bs c) ts) (behind k (rowPriorities bs c) ps) (behind c (sourceStates bs c) ss) in
+    let k = c * tableOf bs .letters in
+    let ok = taken-translation bs c (length ts) (length ps) (length ss) (length es) (sym (says .refusal) ∙ z) in
+    let all = agrees bs c (ok .fault) (ok .arrays .most-rows) (ok .not-full) (behind k (rowTargets bs c) ts) (behind k (rowPriorities bs c) ps) (behind c (sourceStates bs c) ss) in
     let at-ts = after-success number k (rowTargets bs c) ts ts′ z (says .target-array) in
     let at-ps = after-success number k (rowPriorities bs c) ps ps′ z (says .priority-array) in
     let at-ss = after-success number c (sourceStates bs c) ss ss′ z (says .source-array) in
     let some : length (tableRows bs c) ≡ count = sym (rw z at (says .count)) in
     rw (at-ts, at-ps, at-ss, some) at all
+
+pub says-judged : (bs : List ℕ) (c : ℕ) (ts ts′ ps ps′ ss ss′ es es′ : List ℕ) (number count : ℕ)
+    → TranslateSays bs c (rowArrays ts ps ss es) (rowArrays ts′ ps′ ss′ es′) number count → number ≡ 0 → (lead l : List ℕ)
+    → parityJudge count (tableOf bs .letters) ts′ ps′ lead l ≡ parityJudge (length (tableRows bs c)) (tableOf bs .letters) (rowTargets bs c) (rowPriorities bs c) lead l
+says-judged bs c ts ts′ ps ps′ ss ss′ es es′ number count says z lead l =
+    let ok = taken-translation bs c (length ts) (length ps) (length ss) (length es) (sym (says .refusal) ∙ z) in
+    let alone = agrees bs c (ok .fault) (ok .arrays .most-rows) (ok .not-full) [] [] [] .judges lead l in
+    says-agrees bs c ts ts′ ps ps′ ss ss′ es es′ number count says z .judges lead l ∙ sym (rw (append-nil (rowTargets bs c), append-nil (rowPriorities bs c)) at alone)

@@ -26,3 +26,4 @@ pub mod Meanings
 pub mod Cards
 pub mod Texts
 pub mod Listings
+pub mod ListingBounds

@@ -1,13 +1,16 @@
--- A record's number determines the record.
+-- A record's number determines the record, and has as many digits as the record has pairs.
 --     isDigit i                1 to 9: what can stand for a pair in a decimal number, so that no pair is lost at the front
 --     decimal-determines       two lists of digits with the same decimal number are the same
+--     decimal-below            the decimal number of n digits is below the n-th power of ten
 --     record-determined        two orderings of pairs 1 to 9 with the same number are the same record
 use mathlib.Core.Path.{_≡_, refl, sym, ap, ap₂, _∙_}
 use mathlib.Core.Bool.{Bool, true, false, not, _&&_}
 use mathlib.Core.List.{List, [], _∷_, reverse, reverseAux, reverse-reverse}
-use Prim.Native.Nat.{ℕ, _+_, _*_, _%_, _≤_}
+use Prim.Native.Nat.{ℕ, suc, _+_, _*_, _%_, _^_, _≤_, _<_}
+use native.Mathlib.Nat.{mul-assoc, mul-le-mul-right, pow-succ'}
 use native.Mathlib.Omega.{arith}
 use lib.Dec.{leb}
+use lib.ListN.{length}
 use borrow.Author.Tests.{leb-true, le-leb, not-false, not-true}
 use Rattle.rules.specs.Basics.{any, isIn}
 use Rattle.rules.specs.Records.{decimalFrom, decimal}
@@ -59,6 +62,16 @@ decimal-determines o o′ h g e =
     sym (reverse-reverse o)
     ∙ ap reverse (from-end-same (reverse o) (reverse o′) (digits-turned o [] h refl) (digits-turned o′ [] g refl) (sym (decimal-turned o []) ∙ e ∙ decimal-turned o′ []))
     ∙ reverse-reverse o′
+
+decimal-from-below : (v : ℕ) (o : List ℕ) → AllDigits o → decimalFrom v o < suc v * 10 ^ length o
+decimal-from-below v [] h = omega arith
+decimal-from-below v (i ∷ o) h =
+    let d = digits-split i o h in
+    let more : suc (10 * v + i) * 10 ^ length o ≤ suc v * 10 * 10 ^ length o = mul-le-mul-right (10 ^ length o) (omega (arith, d .1)) in
+    rw (pow-succ', ← mul-assoc) (omega (arith, decimal-from-below (10 * v + i) o (d .2)))
+
+pub decimal-below : (o : List ℕ) → AllDigits o → decimal o < 10 ^ length o
+decimal-below o h = omega (arith, decimal-from-below 0 o h)
 
 module _ (t : Table) (few : t .pairs ≤ 9) where
   pub ordering-digits : (q : ℕ) (o : List ℕ) → IsOrdering t q o → AllDigits o

@@ -2,7 +2,9 @@
 --     rising-ordering      the rising pairs are an ordering of the pairs that count
 --     ordering-together    the pairs that count are the same in a whole component
 --     moved-ordering       a move keeps an ordering
+--     ordering-length      an ordering has no more pairs than the table
 --     reached-ordering     every reachable record is an ordering of the pairs that count in its component, for any number of pairs
+--     reached-state        every reachable row stands at a state
 --     pair-counts          a pair that a closed walk satisfies counts where the walk runs
 --     table-same           sameness of a table's rows is equality
 --     table-rows           the rows of a table's translation are exactly the reachable ones, each once, in order of discovery
@@ -13,7 +15,8 @@ use mathlib.Core.List.{List, [], _∷_, map}
 use Prim.Native.Nat.{ℕ, zero, suc, _+_, _-_, _≤_, _<_, max}
 use native.Mathlib.Omega.{arith}
 use lib.Dec.{eqb, leb}
-use borrow.Author.Tests.{eqb-true, eqb-false, eq-eqb, ne-eqb, leb-true, leb-false, le-leb}
+use lib.ListN.{length}
+use borrow.Author.Tests.{eqb-true, eqb-false, eq-eqb, ne-eqb, leb-true, leb-false, le-leb, lt-leb}
 use Rattle.rules.specs.Basics.{pick, any, SameSet, anyBelow, isIn, occurs, keep, tabulate, isEven}
 use Rattle.rules.specs.Systems.{System, together, isInside, Path}
 use Rattle.rules.specs.Runs.{Taken, passFrom}
@@ -26,7 +29,7 @@ use Rattle.rules.proofs.Bools.{by, and-both, and-parts, bool-ext}
 use Rattle.rules.proofs.Sets.{any-map, any-find, any-intro, below-find, below-intro}
 use Rattle.rules.proofs.Reach.{inside-parts, within-view, within-same}
 use Rattle.rules.proofs.Walks.{closed-within}
-use Rattle.rules.proofs.Appearance.{kept-occurs, keep-free, occurs-none, none-occurs, moved-occurs, closed-walk}
+use Rattle.rules.proofs.Appearance.{kept-occurs, keep-free, occurs-none, none-occurs, once-length, moved-occurs, closed-walk}
 use Rattle.rules.proofs.Exploration.{rows-view}
 use Rattle.rules.proofs.Steps.{plan-same}
 use Rattle.rules.proofs.Demand3.{reached-fits}
@@ -105,6 +108,15 @@ module _ (t : Table) where
 
   counted-intro : (q i : ℕ) → 1 ≤ i → i ≤ t .pairs → counts t q i ≡ true → isCounted t q i ≡ true
   counted-intro q i l h c = rw (le-leb 1 i l, le-leb i (t .pairs) h, c)
+
+  pub ordering-length : (q : ℕ) (o : List ℕ) → IsOrdering t q o → length o ≤ t .pairs
+  ordering-length q o f = once-length (t .pairs) o (f 0) once above
+    where
+      once : (i : ℕ) → occurs i o ≤ 1
+      once i = rw (f i) (by (isCounted t q i) (λ e. rw e (omega arith)) (λ e. rw e (omega arith)))
+
+      above : (i : ℕ) → t .pairs < i → occurs i o ≡ 0
+      above i l = f i ∙ rw (lt-leb i (t .pairs) l, and-false (leb 1 i))
 
   -- what an ordering holds
   pub ordering-holds : (q i : ℕ) (o : List ℕ) → IsOrdering t q o → isIn i o ≡ isCounted t q i
@@ -195,3 +207,7 @@ module _ (t : Table) where
   -- every reachable record is an ordering
   pub reached-ordering : t .start < t .states → {r : Row (List ℕ)} → Reached (tablePlan t) r → IsOrdering t (r .source) (r .memory)
   reached-ordering h reached = reached-fits s (t .start) (recordKeeper t) (satisfies t) (IsOrdering t) rabin-lawful h reached .1
+
+  -- and stands at a state
+  pub reached-state : t .start < t .states → {r : Row (List ℕ)} → Reached (tablePlan t) r → r .source < t .states
+  reached-state h reached = reached-fits s (t .start) (recordKeeper t) (satisfies t) (IsOrdering t) rabin-lawful h reached .0

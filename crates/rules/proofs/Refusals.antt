@@ -7,24 +7,27 @@
 --     parity-facts     what holds of a parity table that is taken
 --     parity-none      a parity table with nothing to refuse
 --     array-facts     what holds of a capacity and of lent arrays that are taken, and arrays-enough the other way
---     fault-below      the refusals of a table are those up to the marks'
+--     taken-translation     what holds of a table and of lent arrays that are translated
+--     translated-none       a table that is translated, with room in the arrays for any letters: nothing to refuse
+--     fault-below, translation-below     the refusals of a table are those up to the marks', of a translation those up to full
 use mathlib.Core.Path.{_≡_, refl}
-use mathlib.Core.Bool.{Bool, true, false, _||_}
+use mathlib.Core.Bool.{Bool, true, false, not, _&&_, _||_}
 use mathlib.Core.List.{List}
 use Prim.Native.Nat.{ℕ, zero, suc, _*_, _≤_, _<_}
-use native.Mathlib.Nat.{le-antisymm, mul-le-mul}
+use native.Mathlib.Nat.{le-antisymm, le-trans, mul-le-mul, mul-le-mul-left}
 use native.Mathlib.Omega.{arith}
 use lib.Dec.{eqb, ltb, leb}
 use lib.ListN.{length, take}
-use borrow.Author.Tests.{eqb-false, ne-eqb, ltb-false, le-ltb, leb-false}
+use borrow.Author.Tests.{eqb-true, eqb-false, ne-eqb, ltb-false, le-ltb, leb-true, leb-false, not-true}
 use Rattle.rules.specs.Basics.{firstOf, when}
 use Rattle.rules.specs.Limits.{maxStates, maxLetters, maxPairs, maxRows, maxPiece, headerSize, noState, noRow}
 use Rattle.rules.specs.Refusals as Refusal
 use Rattle.rules.specs.Runs.{strayLetter}
 use Rattle.rules.specs.Tables.{tableOf, tableFault, badSizes, tableLength, badTargets, badMarks}
 use Rattle.rules.specs.Judges.{wordFault, parityFault}
-use Rattle.rules.specs.Says.{areShort}
-use Rattle.rules.proofs.Bools.{or-none}
+use Rattle.rules.specs.Claims.{tableRows, exceeds, translated}
+use Rattle.rules.specs.Says.{areShort, arraysFault, translateFault}
+use Rattle.rules.proofs.Bools.{or-none, and-parts}
 
 -- ---- chains of refusals
 -- no refusal: this one is not met, nor any behind it
@@ -213,3 +216,43 @@ fault-below bs =
     (first-below (leb (t .states) (t .start)) Refusal.start (omega arith)
     (first-below (badTargets (t .states) noState (t .targets)) Refusal.target (omega arith)
     (when-below (badMarks (t .pairs) (t .targets) (t .marks)) Refusal.marks (omega arith)))))))
+
+-- ---- a translation
+pub record TakenTranslation (bs : List ℕ) (c a b d e : ℕ) : Type 0 where
+  pub fault : tableFault bs ≡ 0
+  pub table : TableFacts bs
+  pub arrays : ArrayFacts c (tableOf bs .letters) a b d e
+  pub not-full : exceeds bs c ≡ false
+  pub rows-fit : length (tableRows bs c) ≤ c
+
+pub taken-translation : (bs : List ℕ) (c a b d e : ℕ) → translateFault bs c a b d e ≡ 0 → TakenTranslation bs c a b d e
+unfolding translateFault
+taken-translation bs c a b d e z =
+    let m = tableOf bs .letters in
+    let full = exceeds bs c in
+    let r = first-zero (tableFault bs) (firstOf (arraysFault c m a b d e) (when full Refusal.full)) z in
+    let u = first-none (areShort c m a b d e) 6 (when full Refusal.full) (r .1) in
+    let f = when-none full 7 (u .1) in
+    record { fault = r .0; table = table-facts bs (r .0); arrays = array-facts c m a b d e (u .0); not-full = f; rows-fit = ltb-false c _ f }
+
+pub translated-none : (bs : List ℕ) (c a b d e : ℕ) → translated bs c ≡ true → c * maxLetters ≤ a → c * maxLetters ≤ b → c ≤ d → c ≤ e → translateFault bs c a b d e ≡ 0
+unfolding translateFault
+translated-none bs c a b d e h la lb ld le =
+    let full = exceeds bs c in
+    let r = and-parts (eqb (tableFault bs) 0) (leb 1 c && (leb c maxRows && not full)) h in
+    let u = and-parts (leb 1 c) (leb c maxRows && not full) (r .1) in
+    let v = and-parts (leb c maxRows) (not full) (u .1) in
+    let z = eqb-true (tableFault bs) 0 (r .0) in
+    let cells : c * tableOf bs .letters ≤ c * maxLetters = mul-le-mul-left c (table-facts bs z .sizes .most-letters) in
+    let room : ArrayFacts c (tableOf bs .letters) a b d e = record { some-rows = leb-true 1 c (u .0); most-rows = leb-true c maxRows (v .0); target-room = le-trans cells la; priority-room = le-trans cells lb; state-room = ld; record-room = le } in
+    rw (z, arrays-enough room, not-true full (v .1))
+
+chain-below : {k r : ℕ} (x : ℕ) → x ≤ k → r ≤ k → firstOf x r ≤ k
+chain-below zero l h = h
+chain-below (suc x) l h = l
+
+pub translation-below : (bs : List ℕ) (c a b d e : ℕ) → translateFault bs c a b d e ≤ Refusal.full
+unfolding translateFault
+translation-below bs c a b d e =
+    chain-below (tableFault bs) (omega (arith, fault-below bs))
+    (first-below (areShort c (tableOf bs .letters) a b d e) Refusal.arrays (omega arith) (when-below (exceeds bs c) Refusal.full (omega arith)))

@@ -5,13 +5,15 @@
 --     each-same                     texts that are equal one by one
 --     each-length                   texts of a bounded length
 --     put-append                    a text in two parts is written part by part
+--     put-front                     a text that fits is the front of the array, whole
 use mathlib.Core.Path.{_≡_, refl, _∙_}
 use mathlib.Core.List.{List, [], _∷_, _++_, append-assoc, append-nil}
 use Prim.Native.Nat.{ℕ, zero, suc, _+_, _*_, _/_, _%_, _^_, _≤_, _<_}
 use native.Mathlib.Nat.{suc-mul}
 use native.Mathlib.Omega.{arith}
 use lib.Dec.{ltb}
-use lib.ListN.{length, set, length-append}
+use lib.ListN.{length, take, drop, set, length-append}
+use lib.Seq.{sets-eq, take-at}
 use borrow.Author.Tests.{ltb-false, lt-ltb, le-ltb}
 use Rattle.rules.specs.Texts.{digit, numeralWithin, numeral, each, put}
 use Rattle.rules.proofs.Bools.{by}
@@ -77,3 +79,6 @@ each-same g h n f = rw (tabulate-same g h n 0 (λ a l u. f a (omega arith)))
 pub put-append : (at : ℕ) (s t o : List ℕ) → put at (s ++ t) o ≡ put (at + length s) t (put at s o)
 put-append at [] t o = let e : at + 0 ≡ at = omega arith in rw e
 put-append at (x ∷ s) t o = let e : at + suc (length s) ≡ suc at + length s = omega arith in rw e (put-append (suc at) s t (set o at x))
+
+pub put-front : (t o : List ℕ) → length t ≤ length o → take (length t) (put 0 t o) ≡ t
+put-front t o l = rw (sets-eq t o 0 (omega arith)) (take-at t (drop (0 + length t) o) (length t) refl)

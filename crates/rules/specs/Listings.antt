@@ -12,16 +12,18 @@
 --     tableListing bs c            the head and the lines of the table that the bytes say, translated with the capacity c
 --     listing bs c a b d e         the whole text, where the four lent arrays have the lengths a, b, d and e
 --     rowsListed bs c a b d e      the rows listed, 0 on a refusal
+--     listingBound c m             the most bytes of a listing with the capacity c and m letters: 10 for the head, 26 for each line; no more letters are
+--                                  listed than a table may have
 --     ListingSays bs c (rowArrays ts .. o′ listing) (rowArrays ts′ o r into) o: what the translator leaves in its four arrays, the text in o as far as it fits, and r,
---                                  the length of the whole text
+--                                  the length of the whole text, which the bound holds
 use mathlib.Core.Path.{_≡_}
 use mathlib.Core.Bool.{Bool}
 use mathlib.Core.List.{List, [], _∷_, _++_}
-use Prim.Native.Nat.{ℕ}
+use Prim.Native.Nat.{ℕ, _+_, _*_, _≤_, min}
 use lib.Dec.{eqb}
 use lib.ListN.{length, getD}
 use Rattle.rules.specs.Basics.{pick}
-use Rattle.rules.specs.Limits.{noRow}
+use Rattle.rules.specs.Limits.{maxLetters, noRow}
 use Rattle.rules.specs.Systems.{cell}
 use Rattle.rules.specs.Tables.{tableOf}
 use Rattle.rules.specs.Claims.{tableRows, rowTargets, rowPriorities, sourceStates, recordNumbers}
@@ -71,7 +73,11 @@ listing bs c a b d e = pick (eqb (translateFault bs c a b d e) 0) (tableListing 
 abbrev pub rowsListed : List ℕ → ℕ → ℕ → ℕ → ℕ → ℕ → ℕ
 rowsListed bs c a b d e = pick (eqb (translateFault bs c a b d e) 0) (length (tableRows bs c)) 0
 
+abbrev pub listingBound : ℕ → ℕ → ℕ
+listingBound c m = 10 + 26 * (c * min m maxLetters)
+
 pub record ListingSays (bs : List ℕ) (c : ℕ) (x x′ : RowArrays) (o o′ : List ℕ) (r : ℕ) : Type 0 where
   pub arrays : TranslateSays bs c x x′ (translateFault bs c (length (x .targets)) (length (x .priorities)) (length (x .sources)) (length (x .records))) (rowsListed bs c (length (x .targets)) (length (x .priorities)) (length (x .sources)) (length (x .records)))
   pub text : o′ ≡ put 0 (listing bs c (length (x .targets)) (length (x .priorities)) (length (x .sources)) (length (x .records))) o
   pub size : r ≡ length (listing bs c (length (x .targets)) (length (x .priorities)) (length (x .sources)) (length (x .records)))
+  pub bound : r ≤ listingBound c (tableOf bs .letters)

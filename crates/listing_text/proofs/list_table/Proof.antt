@@ -2,8 +2,7 @@
 use native.Mathlib.Omega.{arith}
 use borrow.Author.Needs.{needs}
 use Rattle.rules.specs.Says.{TranslateSays, rowArrays}
-use Rattle.listing_text.proofs.Bounds.{lines-reach, refused-reach}
-use Rattle.listing_text.proofs.Promises.{success, taken, shown, listing-done, listing-refused, listing-says}
+use Rattle.listing_text.proofs.Promises.{success, taken, shown, listing-done, done-reach, listing-refused, refused-reach, listing-says}
 use Rattle.listing_text.proofs.list_table.Statement.{statement}
 use Rattle.listing_text.proofs.list_table.Tie as tie
 
@@ -19,7 +18,7 @@ module _ (c : tie.Else1) where
   done = success (c .if1 .left) (found .translate-table .ensures .0)
 
 put-refusal-requires : tie.Need-put-refusal-requires
-put-refusal-requires c κs = refused-reach _ (omega arith)
+put-refusal-requires c κs = refused-reach (c .before .before .before .before .before .before .before .before .before .before .translate-table .ensures .0)
 
 returns : tie.Need-returns
 returns c =
@@ -27,23 +26,16 @@ returns c =
     listing-says says (listing-refused says (c .before .before .before .before .if1 .taken)) (c .before .before .put-refusal .ensures)
 
 shared-slice-read-letters : tie.Need-shared-slice-read-letters
-shared-slice-read-letters c = omega (arith, taken (done (c .before)))
+shared-slice-read-letters c = omega (arith, taken (done (c .before)) .table)
 
 cast-letters : tie.Need-cast-letters
-cast-letters c = omega (arith, taken (done (c .before)))
+cast-letters c = omega (arith, taken (done (c .before)) .table)
 
 shared-slice-read-pairs : tie.Need-shared-slice-read-pairs
-shared-slice-read-pairs c = omega (arith, taken (done (c .before .before)))
+shared-slice-read-pairs c = omega (arith, taken (done (c .before .before)) .table)
 
 put-table-requires : tie.Need-put-table-requires
-put-table-requires c κs =
-    let s = c .before .before .before .before .before .before .before in
-    let room = shown (done s) in
-    let targets = s .before .before .before .before .before .before .before .slice-known6 .given in
-    let priorities = s .before .before .before .before .before .slice-known7 .given in
-    let sources = s .before .before .before .slice-known8 .given in
-    let records = s .before .slice-known9 .given in
-    (lines-reach _ (room .most-letters) _ _ (λ i. omega (arith, targets i)) (λ i. omega (arith, priorities i)) _ _ _ _ (room .most-rows) (omega (arith, taken (done s))) (λ i. omega (arith, sources i)) (λ i. omega (arith, records i)), room)
+put-table-requires c κs = let s = c .before .before .before .before .before .before .before in (done-reach (done s), shown (done s))
 
 returns-2 : tie.Need-returns-2
 returns-2 c =

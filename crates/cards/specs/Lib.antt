@@ -1,0 +1,2 @@
+-- What the program's contracts cite beyond the rules.
+pub mod Marked
