@@ -14,7 +14,7 @@ use Rattle.tables.proofs.Laying.{is-table}
 use Rattle.translate.specs.Cells.{HasCells}
 use Rattle.translate.proofs.CellCodes.{lay-fault, many-cells, laid-table, surveyed, rising-marked}
 
-module _ {bs ts ts′ ms ms′ hs hs′ cs cs′ : List ℕ} {number n m start : ℕ} {fits : Bool} (taken : tableFault bs ≡ 0) (lt : 1024 ≤ length ts) (lm : 1024 ≤ length ms) (lh : 64 ≤ length hs) (lc : 64 ≤ length cs) (kt : length ts′ ≡ length ts) (km : length ms′ ≡ length ms) (kh : length hs′ ≡ length hs) (kc : length cs′ ≡ length cs) (lay : LaySays bs ts ts′ ms ms′ number n m start) (survey : SurveySays n m ts′ ms′ hs hs′ cs cs′ fits) where
+module _ {bs ts ts′ ms ms′ hs hs′ cs cs′ : List ℕ} {number n m start : ℕ} {fits : Bool} (formed : tableFault bs ≡ 0) (lt : 1024 ≤ length ts) (lm : 1024 ≤ length ms) (lh : 64 ≤ length hs) (lc : 64 ≤ length cs) (kt : length ts′ ≡ length ts) (km : length ms′ ≡ length ms) (kh : length hs′ ≡ length hs) (kc : length cs′ ≡ length cs) (lay : LaySays bs ts ts′ ms ms′ number n m start) (survey : SurveySays n m ts′ ms′ hs hs′ cs cs′ fits) where
   target-cells : HasCells bs (length ts)
   target-cells z = omega (arith, many-cells bs z)
 
@@ -23,8 +23,8 @@ module _ {bs ts ts′ ms ms′ hs hs′ cs cs′ : List ℕ} {number n m start :
 
   pub counted-rising : (q : ℕ) → q < tableOf bs .states → keep (isMarked (getD cs′ q 0)) (tabulate limit 1 (λ i. i)) ≡ rising (tableOf bs) q
   counted-rising q l =
-      let good = is-table bs taken in
-      let none : number ≡ 0 = lay .refusal ∙ lay-fault bs (length ts) (length ms) target-cells mark-cells ∙ taken in
-      let laid = laid-table taken none kt km target-cells mark-cells lay in
+      let good = is-table bs formed in
+      let none : number ≡ 0 = lay .refusal ∙ lay-fault bs (length ts) (length ms) target-cells mark-cells ∙ formed in
+      let laid = laid-table formed none kt km target-cells mark-cells lay in
       let sets = surveyed good laid (omega (arith, good .few-states)) (omega (arith, good .few-states)) kh kc survey .1 in
       rw (sets .entry q l) (rising-marked (tableOf bs) q (good .few-pairs))

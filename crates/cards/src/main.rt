@@ -1,6 +1,6 @@
-// Runs the cards of document 01. Of those that are marked, `marked` proves that each gives what the rules' list says. Of the others it runs
+// Runs the cards (RULES, "Cards"). Of those with a star, `marked` proves that each gives what the rules' list says. Of the others it runs
 // one: T with capacity 4 is translated, with capacity 3 it is refused 8, the arrays being lent full of nines, one row longer than the
-// capacity. What is printed is compared with `stdout`, which was written from the document.
+// capacity. What is printed is compared with `stdout`, which was written from the rules.
 use judge::Judged;
 use libc::STDOUT_FILENO;
 use marked::count_card;

@@ -1,4 +1,4 @@
-// The marked cards of document 01: each function works out what a card of the rules' list says, and its contract says that the result is the
+// The cards with a star (RULES, "Cards"): each function works out what a card of the rules' list says, and its contract says that the result is the
 // card's. It rests on the translator, the survey of tables, both judges and the records.
 use judge::Judged;
 use judge::judge_parity;

@@ -12,7 +12,7 @@ use lib.ListN.{length}
 use borrow.Author.Tests.{ltb-true, leb-true, le-leb}
 use Rattle.rules.specs.Judges.{paritySystem}
 use Rattle.rules.proofs.Bools.{and-parts, bool-ext}
-use Rattle.components.specs.Searching.{doneNumber, Room}
+use Rattle.components.specs.Searching.{doneNumber, SearchRoom}
 use Rattle.components.specs.Reaches.{ReachRoom}
 use Rattle.components.specs.Calls.{cellsFit, componentsFit, reachFits}
 
@@ -23,7 +23,7 @@ cells-fit n m t h =
     (ltb-true n doneNumber (a .0), ltb-true m doneNumber (b .0), leb-true (n * m) t (b .1))
 
 pub components-room : (n m : ℕ) (targets work out : List ℕ) → componentsFit n m targets work out ≡ true
-    → Room (paritySystem n m targets) targets work × (n ≤ length out)
+    → SearchRoom (paritySystem n m targets) targets work × (n ≤ length out)
 components-room n m targets work out h =
     let a = and-parts (cellsFit n m (length targets)) (leb (5 * n) (length work) && leb n (length out)) h in
     let b = and-parts (leb (5 * n) (length work)) (leb n (length out)) (a .1) in

@@ -4,7 +4,7 @@
 --     untouched-none, untouched-then, untouched-start    entries past the states that are met: nothing is written, one writing after another, the
 --                      numbers are cleared and the first state is met
 --     Reaching, reach-room-kept, reaching-none, reaching-more, reached-own    the search underway
---     Earlier, LeadsOn, Leading, leading-none, leading-more, leading-all    a path written from its end
+--     FromEarlier, LeadsOn, Leading, leading-none, leading-more, leading-all    a path written from its end
 --     reached-exact    when all letters are read, what is met is what is reached
 use mathlib.Core.Path.{_≡_, refl, sym, ap, _∙_}
 use mathlib.Core.Bool.{Bool, false, not, _&&_}
@@ -23,13 +23,13 @@ use Rattle.rules.proofs.Bools.{by, clash}
 use Rattle.rules.proofs.Filling.{beyond-none, beyond-set, beyond-then, beyond-wider}
 use Rattle.rules.proofs.Reach.{path-append}
 use Rattle.components.specs.Places.{at, Put}
-use Rattle.components.specs.Reaches.{Came, Reached, ReachRoom, Untouched, ReadSays}
+use Rattle.components.specs.Reaches.{Came, Queued, ReachRoom, Untouched, ReadSays}
 use Rattle.components.specs.Calls.{PathFound}
 use Rattle.rules.proofs.Reaching.{kept-along}
 use Rattle.components.proofs.Searches.{same-or, room}
 
 pub reached-start : (s : System) (from : ℕ) (number number′ queue queue′ parent letter : ℕ → ℕ) → from < s .states → ((q : ℕ) → q < s .states → number q ≡ 0)
-    → Put number number′ from 1 → Put queue queue′ 0 from → Reached s from 1 0 0 number′ queue′ parent letter
+    → Put number number′ from 1 → Put queue queue′ 0 from → Queued s from 1 0 0 number′ queue′ parent letter
 reached-start s from number number′ queue queue′ parent letter l z pn pq =
     record {
       places = record {
@@ -50,8 +50,8 @@ reached-start s from number number′ queue queue′ parent letter l z pn pq =
     numbered : (q : ℕ) → q < s .states → number′ q ≤ 1
     numbered q lq = same-or q from (λ e. rw (e, pn .here) (omega arith)) (λ d. omega (arith, pn .others q d, z q lq))
 
-module _ (s : System) (from c k a : ℕ) (number queue parent letter : ℕ → ℕ) (x : Reached s from c k a number queue parent letter) where
-  pub reached-old : (s .go (queue k) a < s .states → 0 < number (s .go (queue k) a)) → Reached s from c k (a + 1) number queue parent letter
+module _ (s : System) (from c k a : ℕ) (number queue parent letter : ℕ → ℕ) (x : Queued s from c k a number queue parent letter) where
+  pub reached-old : (s .go (queue k) a < s .states → 0 < number (s .go (queue k) a)) → Queued s from c k (a + 1) number queue parent letter
   reached-old h =
       record {
         places = x .places;
@@ -63,7 +63,7 @@ module _ (s : System) (from c k a : ℕ) (number queue parent letter : ℕ → �
         part = λ b l t. same-or b a (λ e. rw e (h (rw e at t))) (λ d. x .part b (omega arith) t);
       }
 
-  pub reached-row : s .letters ≤ a → Reached s from c (k + 1) 0 number queue parent letter
+  pub reached-row : s .letters ≤ a → Queued s from c (k + 1) 0 number queue parent letter
   reached-row h =
       record {
         places = x .places;
@@ -106,7 +106,7 @@ module _ (s : System) (from c k a : ℕ) (number queue parent letter : ℕ → �
               let el = pl .others i (λ e. omega arith) in
               record { earlier = rw ep (y .earlier); is-letter = rw el (y .is-letter); leads = rw (ep, el, old-place (parent i) (omega (arith, y .earlier)), old-place i b) (y .leads) }
 
-      pub reached-new : Reached s from (c + 1) k (a + 1) number′ queue′ parent′ letter′
+      pub reached-new : Queued s from (c + 1) k (a + 1) number′ queue′ parent′ letter′
       reached-new =
           rw (add-one c)
           (record {
@@ -164,7 +164,7 @@ module _ (s : System) (from c k a : ℕ) (number queue parent letter : ℕ → �
 
 -- ---- the search underway, since its arrays were as those without a prime
 pub record Reaching (s : System) (from c k a : ℕ) (targets numbers numbers′ queue queue′ parents parents′ letters letters′ : List ℕ) : Type 0 where
-  pub reached : Reached s from c k a (at numbers′) (at queue′) (at parents′) (at letters′)
+  pub reached : Queued s from c k a (at numbers′) (at queue′) (at parents′) (at letters′)
   pub room : ReachRoom s targets numbers′ queue′ parents′ letters′
   pub untouched : Untouched (s .states) c numbers numbers′ queue queue′ parents parents′ letters letters′
 
@@ -207,17 +207,17 @@ reach-room-kept s c targets numbers numbers′ queue queue′ parents parents′
       letter-room = rw (u .past-letters .size) (r .letter-room);
     }
 
-pub reaching-none : (s : System) (from c k a : ℕ) (targets numbers queue parents letters : List ℕ) → Reached s from c k a (at numbers) (at queue) (at parents) (at letters)
+pub reaching-none : (s : System) (from c k a : ℕ) (targets numbers queue parents letters : List ℕ) → Queued s from c k a (at numbers) (at queue) (at parents) (at letters)
     → ReachRoom s targets numbers queue parents letters → Reaching s from c k a targets numbers numbers queue queue parents parents letters letters
 reaching-none s from c k a targets numbers queue parents letters x r =
     record { reached = x; room = r; untouched = untouched-none (s .states) c numbers queue parents letters }
 
 -- the first state of the queue is that from which the search goes
-pub reached-own : (s : System) (from c k a : ℕ) (number queue parent letter : ℕ → ℕ) → Reached s from c k a number queue parent letter
-    → Reached s (queue 0) c k a number queue parent letter
+pub reached-own : (s : System) (from c k a : ℕ) (number queue parent letter : ℕ → ℕ) → Queued s from c k a number queue parent letter
+    → Queued s (queue 0) c k a number queue parent letter
 reached-own s from c k a number queue parent letter x = let e : from ≡ queue 0 = sym (x .first) in from-as e x
   where
-    from-as : {f g : ℕ} → f ≡ g → Reached s f c k a number queue parent letter → Reached s g c k a number queue parent letter
+    from-as : {f g : ℕ} → f ≡ g → Queued s f c k a number queue parent letter → Queued s g c k a number queue parent letter
     from-as e y = rw e at y
 
 module _ (s : System) (from c k a c′ k′ a′ : ℕ) (targets numbers numbers′ numbers″ queue queue′ queue″ parents parents′ parents″ letters letters′ letters″ : List ℕ)
@@ -241,7 +241,7 @@ drop-set xs j v some l =
 
 abbrev pub LeadsOn : (ℕ → ℕ) → (ℕ → ℕ) → ℕ → ℕ → List ℕ → Type 0
 LeadsOn parent letter place i w =
-    (s : System) (from c k a : ℕ) (number queue : ℕ → ℕ) → Reached s from c k a number queue parent letter → place < c → Path s (queue i) w (queue place)
+    (s : System) (from c k a : ℕ) (number queue : ℕ → ℕ) → Queued s from c k a number queue parent letter → place < c → Path s (queue i) w (queue place)
 
 leads-none : (parent letter : ℕ → ℕ) (place : ℕ) → LeadsOn parent letter place place []
 leads-none parent letter place s from c k a number queue x l = here
@@ -254,17 +254,17 @@ leads-more parent letter place i w some l f s from c k a number queue x h =
     step {p = queue (parent i)} (y .is-letter) (rw (y .leads) (x .places .state i (omega arith))) rest
 
 leads-all : (parent letter : ℕ → ℕ) (place i : ℕ) (w : List ℕ) → i ≡ 0 → LeadsOn parent letter place i w
-    → (s : System) (from c k a : ℕ) (number queue : ℕ → ℕ) → Reached s from c k a number queue parent letter → place < c → Path s from w (queue place)
+    → (s : System) (from c k a : ℕ) (number queue : ℕ → ℕ) → Queued s from c k a number queue parent letter → place < c → Path s from w (queue place)
 leads-all parent letter place i w e f s from c k a number queue x h = rw (e, x .first) at (f s from c k a number queue x h)
 
 -- each place up to the one asked for was met from an earlier one
-abbrev pub Earlier : List ℕ → ℕ → Type 0
-Earlier parents place = (j : ℕ) → 0 < j → j ≤ place → at parents j < j
+abbrev pub FromEarlier : List ℕ → ℕ → Type 0
+FromEarlier parents place = (j : ℕ) → 0 < j → j ≤ place → at parents j < j
 
 pub record Leading (place : ℕ) (parents letters old out : List ℕ) (begin i : ℕ) : Type 0 where
   pub within : begin ≤ length old
   pub front : take begin out ≡ take begin old
-  pub leads : Earlier parents place → place ≤ length old
+  pub leads : FromEarlier parents place → place ≤ length old
       → (i ≤ place) × (i + length old ≤ place + begin) × LeadsOn (at parents) (at letters) place i (drop begin out)
 
 module _ (place : ℕ) (parents letters : List ℕ) where

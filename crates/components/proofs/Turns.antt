@@ -5,7 +5,7 @@
 --     quiet-below               nothing waits beyond what waits last
 --     turn-closed               the last part is a component
 --     room-kept                 arrays that keep their lengths have room
---     Underway, underway-none, underway-more    a search since its arrays were as given
+--     SearchUnderway, underway-none, underway-more    a search since its arrays were as given
 --     searched-none, searched-root, searched-empty, all-found    how a search begins and ends
 use mathlib.Core.Path.{_≡_, refl, sym, ap, _∙_}
 use mathlib.Core.Bool.{true}
@@ -17,7 +17,7 @@ use lib.ListN.{length, set}
 use lib.Seq.{getD-take}
 use Rattle.rules.specs.Systems.{System, reaches, componentOf}
 use Rattle.components.specs.Places.{at, part, Put}
-use Rattle.components.specs.Searching.{doneNumber, numbersIn, stackIn, startsIn, waitingIn, nextIn, Letters, Searched, SearchedIn, Read, Scanned, Entered, Closed, Room, TurnSays}
+use Rattle.components.specs.Searching.{doneNumber, numbersIn, stackIn, startsIn, waitingIn, nextIn, Letters, Searched, SearchedIn, LettersRead, Scanned, Entered, PartClosed, SearchRoom, TurnSays}
 use Rattle.rules.proofs.Reaching.{reaches-trans, reaches-step}
 use Rattle.components.proofs.Stores.{put-set, part-at, part-length, part-here, part-other, part-behind}
 use Rattle.components.proofs.Searches.{same-or, parts-few, waiting-few, back, starts-below, part-read, enter, leave, grown, finish}
@@ -38,7 +38,7 @@ module _ (s : System) (q v : ℕ) (work : List ℕ) where
       let n = s .states in
       record { searched = rw (next-kept 0 (omega arith), next-kept n (omega arith), next-kept (2 * n) (omega arith), next-kept (3 * n) (omega arith), part-here n (4 * n) q v work lq) x }
 
-module _ (s : System) (c p l q : ℕ) (targets work outs : List ℕ) (room : Room s targets work) (x : SearchedIn s c p l work outs)
+module _ (s : System) (c p l q : ℕ) (targets work outs : List ℕ) (room : SearchRoom s targets work) (x : SearchedIn s c p l work outs)
     (some : 0 < l) (is-last : at (waitingIn (s .states) work) (l - 1) ≡ q)
     (in-last : at (startsIn (s .states) work) (p - 1) < at (numbersIn (s .states) work) q)
   where
@@ -135,7 +135,7 @@ module _ (s : System) (c p l q : ℕ) (targets work outs : List ℕ) (room : Roo
         q-same = en .number .others q (λ e. omega (arith, ap number e, sc .fresh lb .1))
 
         -- the letter that led there is read
-        one-read : Read s number′ start′ q (next₁ q) (suc r) (b + 1) (suc r)
+        one-read : LettersRead s number′ start′ q (next₁ q) (suc r) (b + 1) (suc r)
         one-read =
             record {
               some = omega arith;
@@ -159,7 +159,7 @@ module _ (s : System) (c p l q : ℕ) (targets work outs : List ℕ) (room : Roo
             }
 
 -- the last part is a component
-module _ (s : System) (c p l : ℕ) (targets work work′ outs outs′ : List ℕ) (room : Room s targets work) (x : SearchedIn s c p l work outs)
+module _ (s : System) (c p l : ℕ) (targets work work′ outs outs′ : List ℕ) (room : SearchRoom s targets work) (x : SearchedIn s c p l work outs)
     (some : 0 < p) (quiet : (j : ℕ) → j < l → at (numbersIn (s .states) work) (at (waitingIn (s .states) work) j) ≤ at (startsIn (s .states) work) (p - 1))
   where
     abbrev from : ℕ
@@ -168,10 +168,10 @@ module _ (s : System) (c p l : ℕ) (targets work work′ outs outs′ : List �
     whole : Searched s c (suc (p - 1)) l (at (numbersIn (s .states) work)) (at (stackIn (s .states) work)) (at (startsIn (s .states) work)) (at (waitingIn (s .states) work)) (at (nextIn (s .states) work)) (at outs)
     whole = let e : suc (p - 1) ≡ p = omega arith in rw e (x .searched)
 
-    pub turn-closed : (f : ℕ) → f ≡ from → Closed (s .states) f c work work′ outs outs′ → TurnSays s c p l f (p - 1) l work work′ outs outs′
+    pub turn-closed : (f : ℕ) → f ≡ from → PartClosed (s .states) f c work work′ outs outs′ → TurnSays s c p l f (p - 1) l work work′ outs outs′
     turn-closed f e h = rw e (closed (rw e at h))
       where
-        closed : Closed (s .states) from c work work′ outs outs′ → TurnSays s c p l from (p - 1) l work work′ outs outs′
+        closed : PartClosed (s .states) from c work work′ outs outs′ → TurnSays s c p l from (p - 1) l work work′ outs outs′
         closed h =
             let n = s .states in
             let st = h .named in
@@ -190,30 +190,30 @@ quiet-below s c p l v number start waiting next x h j b =
     same-or j (l - 1) (λ e. rw e h) (λ d. omega (arith, x .order j (l - 1) (omega arith) (omega arith)))
 
 -- ---- the whole search
-pub room-kept : (s : System) (targets work work′ : List ℕ) → Room s targets work → length work′ ≡ length work → Room s targets work′
+pub room-kept : (s : System) (targets work work′ : List ℕ) → SearchRoom s targets work → length work′ ≡ length work → SearchRoom s targets work′
 room-kept s targets work work′ r e = record { small = r .small; letters-small = r .letters-small; cell-room = r .cell-room; work-room = rw e (r .work-room) }
 
 -- a search since its arrays were as those without a prime
-pub record Underway (s : System) (c p l : ℕ) (targets work work′ outs outs′ : List ℕ) : Type 0 where
+pub record SearchUnderway (s : System) (c p l : ℕ) (targets work work′ outs outs′ : List ℕ) : Type 0 where
   pub now : SearchedIn s c p l work′ outs′
-  pub room : Room s targets work′
+  pub room : SearchRoom s targets work′
   pub work-size : length work′ ≡ length work
   pub out-size : length outs′ ≡ length outs
   pub rest : (i : ℕ) → s .states ≤ i → at outs′ i ≡ at outs i
   pub met : (q : ℕ) → q < s .states → 0 < at (numbersIn (s .states) work) q → 0 < at (numbersIn (s .states) work′) q
 
-pub underway-none : (s : System) (c p l : ℕ) (targets work outs : List ℕ) → SearchedIn s c p l work outs → Room s targets work
-    → Underway s c p l targets work work outs outs
+pub underway-none : (s : System) (c p l : ℕ) (targets work outs : List ℕ) → SearchedIn s c p l work outs → SearchRoom s targets work
+    → SearchUnderway s c p l targets work work outs outs
 underway-none s c p l targets work outs x r =
     record { now = x; room = r; work-size = refl; out-size = refl; rest = λ i h. refl; met = λ q h n. n }
 
 module _ (s : System) (c p l c′ p′ l′ : ℕ) (targets work work′ work″ outs outs′ outs″ : List ℕ)
-    (x : Underway s c p l targets work work′ outs outs′) (e : length work″ ≡ length work′) (d : length outs″ ≡ length outs′)
+    (x : SearchUnderway s c p l targets work work′ outs outs′) (e : length work″ ≡ length work′) (d : length outs″ ≡ length outs′)
     (y : SearchedIn s c′ p′ l′ work″ outs″)
     (rest : (i : ℕ) → s .states ≤ i → at outs″ i ≡ at outs′ i)
     (met : (q : ℕ) → q < s .states → 0 < at (numbersIn (s .states) work′) q → 0 < at (numbersIn (s .states) work″) q)
   where
-    pub underway-more : Underway s c′ p′ l′ targets work work″ outs outs″
+    pub underway-more : SearchUnderway s c′ p′ l′ targets work work″ outs outs″
     underway-more =
         record {
           now = y;

@@ -21,7 +21,7 @@ use Rattle.rules.specs.Says.{over}
 use Rattle.rules.specs.Systems.{System, Path, componentOf, ComponentsAre}
 use Rattle.components.specs.Places.{at}
 use Rattle.components.specs.Searching.{doneNumber}
-use Rattle.components.specs.Reaches.{Reached, Untouched, ReachSays}
+use Rattle.components.specs.Reaches.{Queued, Untouched, ReachSays}
 
 abbrev pub cellsFit : ℕ → ℕ → ℕ → Bool
 cellsFit n m t = ltb n doneNumber && (ltb m doneNumber && leb (n * m) t)
@@ -47,5 +47,5 @@ pub record ReachFound (n m from : ℕ) (targets numbers numbers′ queue queue�
 pub record PathFound (place : ℕ) (parents by out out′ : List ℕ) (r : ℕ) : Type 0 where
   pub within : r ≤ length out
   pub front : take r out′ ≡ take r out
-  pub path : (s : System) (from c k a : ℕ) (number queue : ℕ → ℕ) → Reached s from c k a number queue (at parents) (at by)
+  pub path : (s : System) (from c k a : ℕ) (number queue : ℕ → ℕ) → Queued s from c k a number queue (at parents) (at by)
       → place < c → place < length parents → place < length by → place ≤ length out → Path s from (drop r out′) (queue place)

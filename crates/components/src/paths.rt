@@ -10,7 +10,7 @@ ghost use Prim.Native.Nat.{ℕ, _+_, _*_, _-_, _<_, _≤_};
 ghost use lib.ListN.{length};
 ghost use Rattle.rules.specs.Judges.{paritySystem};
 ghost use Rattle.components.specs.Places.{at, Rising};
-ghost use Rattle.components.specs.Searching.{doneNumber, numbersIn, stackIn, startsIn, waitingIn, SearchedIn, Joined, Scanned, Entered, Smallest, Closed, Room, TurnSays, SearchSays};
+ghost use Rattle.components.specs.Searching.{doneNumber, numbersIn, stackIn, startsIn, waitingIn, SearchedIn, Joined, Scanned, Entered, Smallest, PartClosed, SearchRoom, TurnSays, SearchSays};
 
 // The number of a state whose component is known.
 pub(crate) const DONE: u16 = 65535;
@@ -111,7 +111,7 @@ fn smallest(stack: &[u16], from: usize, to: usize) -> u16
 // Gives the states at some places their component: the smallest of them names it.
 fn name_component(n: usize, from: usize, to: usize, work: &mut [u16], outs: &mut [u16])
     requires { ⌜ (from < to) × (to ≤ n) × (5 * n ≤ length (now work)) × (n ≤ length (now outs)) × ((i : ℕ) → i < to → at (stackIn n (now work)) i < n) ⌝ }
-    ensures { λ _. ⌜ Closed n from to (now (work .entry)) (now (work .exit)) (now (outs .entry)) (now (outs .exit)) ⌝ }
+    ensures { λ _. ⌜ PartClosed n from to (now (work .entry)) (now (work .exit)) (now (outs .entry)) (now (outs .exit)) ⌝ }
 {
     let label = smallest(&work[n..2 * n], from, to);
     let mut i = from;
@@ -136,7 +136,7 @@ fn extend(
     left: usize,
     work: &mut [u16],
 ) -> Heights
-    requires { ⌜ Room (paritySystem n m (now targets)) (now targets) (now work) × ((outs : List ℕ) × SearchedIn (paritySystem n m (now targets)) count parts left (now work) outs) × (0 < left) × (0 < parts) × (at (waitingIn n (now work)) (left - 1) ≡ q) × (at (startsIn n (now work)) (parts - 1) < at (numbersIn n (now work)) q) ⌝ }
+    requires { ⌜ SearchRoom (paritySystem n m (now targets)) (now targets) (now work) × ((outs : List ℕ) × SearchedIn (paritySystem n m (now targets)) count parts left (now work) outs) × (0 < left) × (0 < parts) × (at (waitingIn n (now work)) (left - 1) ≡ q) × (at (startsIn n (now work)) (parts - 1) < at (numbersIn n (now work)) q) ⌝ }
     ensures { λ r. ⌜ ((outs : List ℕ) → SearchedIn (paritySystem n m (now (targets .entry))) count parts left (now (work .entry)) outs → TurnSays (paritySystem n m (now (targets .entry))) count parts left (r .open) (r .parts) (r .waiting) (now (work .entry)) (now (work .exit)) outs outs) ⌝ }
 {
     let next = 4 * n + q;
@@ -172,7 +172,7 @@ fn turn(
     work: &mut [u16],
     outs: &mut [u16],
 ) -> Heights
-    requires { ⌜ Room (paritySystem n m (now targets)) (now targets) (now work) × (n ≤ length (now outs)) × SearchedIn (paritySystem n m (now targets)) count parts left (now work) (now outs) × (0 < count) ⌝ }
+    requires { ⌜ SearchRoom (paritySystem n m (now targets)) (now targets) (now work) × (n ≤ length (now outs)) × SearchedIn (paritySystem n m (now targets)) count parts left (now work) (now outs) × (0 < count) ⌝ }
     ensures { λ r. ⌜ TurnSays (paritySystem n m (now (targets .entry))) count parts left (r .open) (r .parts) (r .waiting) (now (work .entry)) (now (work .exit)) (now (outs .entry)) (now (outs .exit)) ⌝ }
 {
     let start = work[2 * n + (parts - 1)];
@@ -200,7 +200,7 @@ pub(crate) fn search(
     work: &mut [u16],
     outs: &mut [u16],
 )
-    requires { ⌜ Room (paritySystem n m (now targets)) (now targets) (now work) × (n ≤ length (now outs)) × SearchedIn (paritySystem n m (now targets)) 0 0 0 (now work) (now outs) × (root < n) ⌝ }
+    requires { ⌜ SearchRoom (paritySystem n m (now targets)) (now targets) (now work) × (n ≤ length (now outs)) × SearchedIn (paritySystem n m (now targets)) 0 0 0 (now work) (now outs) × (root < n) ⌝ }
     ensures { λ _. ⌜ SearchSays (paritySystem n m (now (targets .entry))) root (now (work .entry)) (now (work .exit)) (now (outs .entry)) (now (outs .exit)) ⌝ }
 {
     if work[root] != 0 {

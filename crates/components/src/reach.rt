@@ -4,7 +4,7 @@ ghost use mathlib.Core.Path.{_≡_};
 ghost use Prim.Native.Nat.{_+_, _<_};
 ghost use Rattle.rules.specs.Judges.{paritySystem};
 ghost use Rattle.components.specs.Places.{at};
-ghost use Rattle.components.specs.Reaches.{Reached, ReachRoom, ReadSays};
+ghost use Rattle.components.specs.Reaches.{Queued, ReachRoom, ReadSays};
 
 // Reads letter a of the state at place k, and gives how many states are met then.
 fn read_letter(
@@ -20,7 +20,7 @@ fn read_letter(
     parents: &mut [u16],
     by: &mut [u8],
 ) -> usize
-    requires { ⌜ ReachRoom (paritySystem n m (now targets)) (now targets) (now numbers) (now queue) (now parents) (now by) × Reached (paritySystem n m (now targets)) (at (now queue) 0) count k a (at (now numbers)) (at (now queue)) (at (now parents)) (at (now by)) × (k < count) × (a < m) × (target ≡ paritySystem n m (now targets) .go (at (now queue) k) a) ⌝ }
+    requires { ⌜ ReachRoom (paritySystem n m (now targets)) (now targets) (now numbers) (now queue) (now parents) (now by) × Queued (paritySystem n m (now targets)) (at (now queue) 0) count k a (at (now numbers)) (at (now queue)) (at (now parents)) (at (now by)) × (k < count) × (a < m) × (target ≡ paritySystem n m (now targets) .go (at (now queue) k) a) ⌝ }
     ensures { λ r. ⌜ ReadSays (paritySystem n m (now (targets .entry))) count r k (a + 1) (now (numbers .entry)) (now (numbers .exit)) (now (queue .entry)) (now (queue .exit)) (now (parents .entry)) (now (parents .exit)) (now (by .entry)) (now (by .exit)) × (at (now (queue .exit)) k ≡ at (now (queue .entry)) k) ⌝ }
 {
     if n <= target {
@@ -48,7 +48,7 @@ pub(crate) fn read_state(
     parents: &mut [u16],
     by: &mut [u8],
 ) -> usize
-    requires { ⌜ ReachRoom (paritySystem n m (now targets)) (now targets) (now numbers) (now queue) (now parents) (now by) × Reached (paritySystem n m (now targets)) (at (now queue) 0) count k 0 (at (now numbers)) (at (now queue)) (at (now parents)) (at (now by)) × (k < count) ⌝ }
+    requires { ⌜ ReachRoom (paritySystem n m (now targets)) (now targets) (now numbers) (now queue) (now parents) (now by) × Queued (paritySystem n m (now targets)) (at (now queue) 0) count k 0 (at (now numbers)) (at (now queue)) (at (now parents)) (at (now by)) × (k < count) ⌝ }
     ensures { λ r. ⌜ ReadSays (paritySystem n m (now (targets .entry))) count r (k + 1) 0 (now (numbers .entry)) (now (numbers .exit)) (now (queue .entry)) (now (queue .exit)) (now (parents .entry)) (now (parents .exit)) (now (by .entry)) (now (by .exit)) ⌝ }
 {
     let first = queue[k] as usize * m;

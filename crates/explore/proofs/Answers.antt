@@ -25,12 +25,12 @@ use Rattle.explore.specs.declared.Task.{Task}
 use Rattle.explore.specs.declared.Explored.the-variants.{Rows, Full, Unfit}
 use Rattle.explore.specs.Cells.{sourceIn, strays}
 use Rattle.explore.specs.Effects.{keyPlan}
-use Rattle.explore.specs.Exploring.{statesIn, isUnfit, Closed, Room, RowsPart, ExploresAll, ExploreSays, lent}
+use Rattle.explore.specs.Exploring.{statesIn, isUnfit, Closed, RowRoom, RowsPart, ExploresAll, ExploreSays, lent}
 use Rattle.rules.proofs.Filling.{beyond-then, beyond-wider, cells-over, front-over}
 use Rattle.explore.proofs.Rounds.{all-read, all-over}
 
 -- ---- what can be explored
-pub has-room : (m c : ℕ) (ts ps keys : List ℕ) → areShort c m (length ts) (length ps) (length keys) (length keys) ≡ false → Room m c ts ps keys
+pub has-room : (m c : ℕ) (ts ps keys : List ℕ) → areShort c m (length ts) (length ps) (length keys) (length keys) ≡ false → RowRoom m c ts ps keys
 has-room m c ts ps keys h =
     let r = array-facts c m (length ts) (length ps) (length keys) (length keys) h in
     record { some-rows = r .some-rows; most-rows = r .most-rows; target-room = r .target-room; priority-room = r .priority-room; key-room = r .record-room }
@@ -42,7 +42,7 @@ module _ (t : Task) (cells : List ℕ) (c : ℕ) (keys ts ps : List ℕ) where
   abbrev n : ℕ
   n = statesIn m cells
 
-  pub fit-sizes : isUnfit t cells c (length keys) (length ts) (length ps) ≡ false → Closed t cells × Room m c ts ps keys
+  pub fit-sizes : isUnfit t cells c (length keys) (length ts) (length ps) ≡ false → Closed t cells × RowRoom m c ts ps keys
   unfolding isUnfit
   fit-sizes h =
       let short = areShort c m (length ts) (length ps) (length keys) (length keys) in

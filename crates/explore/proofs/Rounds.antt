@@ -24,7 +24,7 @@ use Rattle.explore.specs.declared.Task.{Task}
 use Rattle.rules.specs.Arrays.{Beyond}
 use Rattle.explore.specs.Filing.{Filed}
 use Rattle.explore.specs.Effects.{keyStep, keyPlan}
-use Rattle.explore.specs.Exploring.{Fits, Closed, Room, StepRead, Known, RowSays, Stage, RowsPart, ExploresAll, lent, Lent}
+use Rattle.explore.specs.Exploring.{Fits, Closed, RowRoom, StepRead, Known, RowSays, Stage, RowsPart, ExploresAll, lent, Lent}
 use Rattle.rules.proofs.Filling.{beyond-none, beyond-set, beyond-then, beyond-wider}
 use Rattle.rules.proofs.Reading.{read-none}
 use Rattle.explore.proofs.Steps.{keyed-same, key-row, step-count, step-most, step-rows, step-front, step-rest, step-known}
@@ -149,7 +149,7 @@ module _ (t : Task) (cells : List ℕ) where
   abbrev plan : Plan ℕ
   plan = keyPlan t cells
 
-  pub stage-begun : (c : ℕ) (old ts ps : List ℕ) → Closed t cells → Room (t .letters) c ts ps old → Stage t cells c 0 1 (lent (set old 0 (t .start)) ts ps)
+  pub stage-begun : (c : ℕ) (old ts ps : List ℕ) → Closed t cells → RowRoom (t .letters) c ts ps old → Stage t cells c 0 1 (lent (set old 0 (t .start)) ts ps)
   unfolding rowsOf
   stage-begun c old ts ps closed room =
       record {

@@ -3,8 +3,8 @@
 --     key-row                             the row of a number is the key of that number
 --     step-here                           the step of a cell, by its code and the effect of its marks
 --     row-fits, cell-fits                 the cells of a key that fits
---     code-fits, step-fits, step-there    a code and a step lead to keys that fit; the code of a transition gives a step that is there
---     read-missing, read-there            a cell has been read whose transition is missing, or is there and its key is filed
+--     code-fits, step-fits, key-there    a code and a step lead to keys that fit; the code of a transition gives a step that is there
+--     cell-missing, read-there            a cell has been read whose transition is missing, or is there and its key is filed
 --     step-count, step-most, step-rest, step-rows, step-front, step-known    how many rows there are then, at most one more, what stays past them,
 --                                         which they are, that those known before stay, and what is known
 use mathlib.Core.Path.{_≡_, refl, sym, ap, _∙_}
@@ -20,7 +20,7 @@ use borrow.Author.Tests.{eqb-true, eq-eqb, ltb-true, ltb-false, leb-false, le-le
 use Rattle.rules.specs.Basics.{pick}
 use Rattle.rules.specs.Limits.{noRow}
 use Rattle.rules.specs.Systems.{cell}
-use Rattle.rules.specs.Rows.{Step, Plan, SameIsEqual, rowAt, rowsWith, targetNumber, Read}
+use Rattle.rules.specs.Rows.{Step, Plan, SameIsEqual, rowAt, rowsWith, targetNumber, CellsRead}
 use Rattle.rules.proofs.Bools.{by, clash, and-both}
 use Rattle.rules.proofs.Arrays.{getD-any, row-ends}
 use Rattle.explore.specs.declared.Task.{Task}
@@ -164,7 +164,7 @@ module _ (t : Task) (cells : List ℕ) (closed : Closed t cells) where
           (λ b. let lj = ltb-true j n b in rw (step-front q j lj) (k .fits j lj))
           (λ b. let ge = ltb-false j n b in by-outcome (λ e z ks mo. let d : j ≡ n = omega arith in rw (ks q, d, getD-set-same keys n (x .to) 0 (omega (arith, k .filed .key-room))) (step-fits v a (k .fits i li) la e)) (λ z ks mo. absurd (omega arith)))
 
-      cells-read : Read g noRow more (suc p) ts′ ps′
+      cells-read : CellsRead g noRow more (suc p) ts′ ps′
       cells-read =
           rw
           (s .target-array, s .priority-array)
@@ -182,9 +182,9 @@ module _ (t : Task) (cells : List ℕ) (closed : Closed t cells) where
 
 -- ---- what a function that reads a cell has done
 module _ (w e c n p : ℕ) (keys ts ps : List ℕ) where
-  pub read-missing : ltb w crossingKind ≡ true → Filed c n keys → StepRead (stepIn w e) c n p (lent keys ts ps) (lent keys (set ts p noRow) (set ps p 0)) n
+  pub cell-missing : ltb w crossingKind ≡ true → Filed c n keys → StepRead (stepIn w e) c n p (lent keys ts ps) (lent keys (set ts p noRow) (set ps p 0)) n
   unfolding stepIn
-  read-missing f k =
+  cell-missing f k =
       record {
         count = rw f;
         filed = λ h. k;
@@ -194,15 +194,15 @@ module _ (w e c n p : ℕ) (keys ts ps : List ℕ) where
         key-rest = beyond-none c keys;
       }
 
-  pub step-there : ltb w crossingKind ≡ false → stepIn w e .there ≡ true
+  pub key-there : ltb w crossingKind ≡ false → stepIn w e .there ≡ true
   unfolding stepIn
-  step-there f = by (ltb w insideKind) (λ h. rw (f, h)) (λ h. rw (f, h))
+  key-there f = by (ltb w insideKind) (λ h. rw (f, h)) (λ h. rw (f, h))
 
   pub read-there : (key prio number r : ℕ) (keys′ : List ℕ) → ltb w crossingKind ≡ false → key ≡ stepIn w e .to → prio ≡ stepIn w e .prio
       → Files c key n keys keys′ number → r ≡ rowsAfter n number
       → StepRead (stepIn w e) c n p (lent keys ts ps) (lent keys′ (set ts p number) (set ps p prio)) r
   read-there key prio number r keys′ f k q s z =
-      let t = step-there f in
+      let t = key-there f in
       let same : number ≡ numberAmong (stepIn w e .to) n keys = s .number ∙ ap (λ (y : ℕ). numberAmong y n keys) k in
       record {
         count = z ∙ ap (rowsAfter n) same ∙ sym (ap (λ (b : Bool). pick b (rowsAfter n (numberAmong (stepIn w e .to) n keys)) n) t);

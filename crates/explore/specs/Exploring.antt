@@ -4,7 +4,7 @@
 --                                       of the arrays, for k keys, a targets and b priorities, is too short
 --     Fits m cells v                    claim: the cells of the key's state are among the cells
 --     Closed t cells                    claim: the letters are in range, and the start and every code lead to keys that fit
---     Room m c ts ps keys               claim: the capacity c is in range, and the lent arrays have room for as many rows
+--     RowRoom m c ts ps keys               claim: the capacity c is in range, and the lent arrays have room for as many rows
 --     LinkRoom c k links                claim: there is a link for each place below both c and k
 --     Lent, lent keys ts ps             record of three arrays, the keys, targets and priorities of rows: o before, o′ after
 --     StepRead x c n p o o′ r           claim: cell p, whose step is x, is read, and r keys are known, where n were; there is no plan here
@@ -26,7 +26,7 @@ use lib.Dec.{eqb, ltb, leb}
 use lib.ListN.{length, getD, set, take}
 use Rattle.rules.specs.Basics.{pick, any}
 use Rattle.rules.specs.Limits.{maxLetters, maxRows, noRow}
-use Rattle.rules.specs.Rows.{Step, Read, foundBy, foundFrom, rowsOf, isFull, allTargets, allPriorities}
+use Rattle.rules.specs.Rows.{Step, CellsRead, foundBy, foundFrom, rowsOf, isFull, allTargets, allPriorities}
 use Rattle.rules.specs.Says.{areShort, over}
 use Rattle.explore.specs.declared.Task.{Task}
 use Rattle.explore.specs.declared.Explored.{Explored}
@@ -55,7 +55,7 @@ pub record Closed (t : Task) (cells : List ℕ) : Type 0 where
   pub start : Fits (t .letters) cells (t .start)
   pub leads : (p : ℕ) → p < length cells → strays (statesIn (t .letters) cells) (getD cells p 0) ≡ false
 
-pub record Room (m c : ℕ) (ts ps keys : List ℕ) : Type 0 where
+pub record RowRoom (m c : ℕ) (ts ps keys : List ℕ) : Type 0 where
   pub some-rows : 1 ≤ c
   pub most-rows : c ≤ maxRows
   pub target-room : c * m ≤ length ts
@@ -86,7 +86,7 @@ pub record StepRead (x : Step ℕ) (c n p : ℕ) (o o′ : Lent) (r : ℕ) : Typ
 pub record Known (t : Task) (cells : List ℕ) (c n p : ℕ) (o : Lent) : Type 0 where
   pub filed : Filed c n (o .keys)
   pub fits : (i : ℕ) → i < n → Fits (t .letters) cells (getD (o .keys) i 0)
-  pub read : Read (keyPlan t cells) noRow (take n (o .keys)) p (o .targets) (o .priorities)
+  pub read : CellsRead (keyPlan t cells) noRow (take n (o .keys)) p (o .targets) (o .priorities)
   pub target-room : c * t .letters ≤ length (o .targets)
   pub priority-room : c * t .letters ≤ length (o .priorities)
 
@@ -123,7 +123,7 @@ pub record RowsSay (t : Task) (cells : List ℕ) (n l c i : ℕ) (o o′ : Lent)
 pub record ExploresAll (t : Task) (cells : List ℕ) (c : ℕ) (o o′ : Lent) (r : ℕ) : Type 0 where
   pub full : ltb c r ≡ isFull (keyPlan t cells) c
   pub rows : r ≤ c → take r (o′ .keys) ≡ rowsOf (keyPlan t cells) c
-  pub read : r ≤ c → Read (keyPlan t cells) noRow (rowsOf (keyPlan t cells) c) (r * t .letters) (o′ .targets) (o′ .priorities)
+  pub read : r ≤ c → CellsRead (keyPlan t cells) noRow (rowsOf (keyPlan t cells) c) (r * t .letters) (o′ .targets) (o′ .priorities)
   pub key-rest : Beyond c (o .keys) (o′ .keys)
   pub target-rest : Beyond (c * t .letters) (o .targets) (o′ .targets)
   pub priority-rest : Beyond (c * t .letters) (o .priorities) (o′ .priorities)

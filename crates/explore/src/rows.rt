@@ -19,7 +19,7 @@ ghost use lib.ListN.{length};
 ghost use Rattle.explore.specs.Cells.{span, crossingKind, stepIn};
 ghost use Rattle.explore.specs.Filing.{Filed};
 ghost use Rattle.explore.specs.Index.{Linked};
-ghost use Rattle.explore.specs.Exploring.{LinkRoom, StepRead, Closed, Known, RowSays, Room, Stage, RowsSay, ExploresAll, lent};
+ghost use Rattle.explore.specs.Exploring.{LinkRoom, StepRead, Closed, Known, RowSays, RowRoom, Stage, RowsSay, ExploresAll, lent};
 
 // Up to how many rows a small index serves, and its slots. While few rows are known, clearing the large one would take longer than reading them.
 const FEW_LIMIT: usize = 128;
@@ -211,7 +211,7 @@ pub(crate) fn explore(
     targets: &mut [u16],
     priorities: &mut [u8],
 ) -> usize
-    requires { ⌜ Closed task (now cells) × Room (task .letters) capacity (now targets) (now priorities) (now keys) ⌝ }
+    requires { ⌜ Closed task (now cells) × RowRoom (task .letters) capacity (now targets) (now priorities) (now keys) ⌝ }
     ensures { λ r. ⌜ ExploresAll task (now (cells .entry)) capacity (lent (now (keys .entry)) (now (targets .entry)) (now (priorities .entry))) (lent (now (keys .exit)) (now (targets .exit)) (now (priorities .exit))) r ⌝ }
 {
     let mut heads = [0; FEW_SLOTS];

@@ -25,7 +25,7 @@ use Rattle.rules.proofs.Pigeonhole.{pigeonhole}
 use Rattle.rules.proofs.Sets.{any-append}
 use Rattle.rules.proofs.Runs.{path-end, pass-append, turns-below}
 use Rattle.rules.proofs.Judging.{judged-lead, judged-pass, judged-round}
-use Rattle.judge.specs.Passes.{SumsUp, MissesAfter, Blank, Begun, SumsKept, Underway}
+use Rattle.judge.specs.Passes.{SumsUp, MissesAfter, Blank, Begun, SumsKept, WordUnderway}
 
 module _ (s : System) (l : List ℕ) (e : ℕ) where
   begun-none : (n : ℕ) (begun : List ℕ) → Blank n begun → Begun s l e 0 e begun
@@ -101,7 +101,7 @@ module _ (s : System) (l : List ℕ) (e : ℕ) where
         (sym (ap (any (λ x. t k (g x))) (pass-append s l (repeated d l) (turn s l i e)) ∙ any-append (λ x. t k (g x)) (passFrom s (turn s l i e) l) (passFrom s (turn s l (suc i) e) (repeated d l))))
 
 module _ (s : System) (q : ℕ) (lead l : List ℕ) where
-  pub underway-entry : (e : ℕ) (begun : List ℕ) → Path s q lead e → e < s .states → Blank (s .states) begun → Underway s q lead l e 0 e (length lead) 0 begun
+  pub underway-entry : (e : ℕ) (begun : List ℕ) → Path s q lead e → e < s .states → Blank (s .states) begun → WordUnderway s q lead l e 0 e (length lead) 0 begun
   underway-entry e begun a h b =
       record {
         entry = a;
@@ -117,7 +117,7 @@ module _ (s : System) (q : ℕ) (lead l : List ℕ) where
       → judgedBy s q lead l good ≡ stops n
   misses-judged good is-state lead-ok l-ok n m = judged-lead s q lead l good is-state lead-ok l-ok (m .stop) ∙ ap stops (m .count)
 
-module _ {s : System} {q : ℕ} {lead l : List ℕ} {e r p count first : ℕ} {begun : List ℕ} (u : Underway s q lead l e r p count first begun) where
+module _ {s : System} {q : ℕ} {lead l : List ℕ} {e r p count first : ℕ} {begun : List ℕ} (u : WordUnderway s q lead l e r p count first begun) where
   pub underway-state : p < s .states
   underway-state = begun-below s l e r p begun (u .passes) (u .entry-state)
 
@@ -132,7 +132,7 @@ module _ {s : System} {q : ℕ} {lead l : List ℕ} {e r p count first : ℕ} {b
     pub underway-early : r < s .states
     underway-early = begun-early s l e r p begun (u .passes) (u .entry-state) (sym (u .earlier) ∙ new)
 
-    pub underway-next : (x v : ℕ) → Path s p l x → v ≡ r + 1 → Underway s q lead l e (r + 1) x (count + length l) (getD (set begun p v) x 0) (set begun p v)
+    pub underway-next : (x v : ℕ) → Path s p l x → v ≡ r + 1 → WordUnderway s q lead l e (r + 1) x (count + length l) (getD (set begun p v) x 0) (set begun p v)
     underway-next x v a is =
         record {
           entry = u .entry;

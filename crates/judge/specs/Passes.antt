@@ -8,7 +8,7 @@
 --     Begun s l e r q begun      claim: r passes have been read from e on and led to q; begun has, for each place where one of them began, one
 --                                more than its number, and 0 for the other places
 --     SumsKept s l e t g r vs    claim: for each of r passes, vs sums up the transitions that it takes
---     Underway s q lead l e r p count first begun    claim: a word is being read from q: the lead-in led to e and r passes to p, count letters
+--     WordUnderway s q lead l e r p count first begun    claim: a word is being read from q: the lead-in led to e and r passes to p, count letters
 --                                in all, and first is what begun has for p
 use mathlib.Core.Path.{_≡_}
 use mathlib.Core.Bool.{Bool}
@@ -46,7 +46,7 @@ pub record Begun (s : System) (l : List ℕ) (e r q : ℕ) (begun : List ℕ) : 
 abbrev pub SumsKept : System → List ℕ → ℕ → (ℕ → ℕ → Bool) → (Taken → ℕ) → ℕ → List ℕ → Type 0
 SumsKept s l e t g r vs = (i : ℕ) → i < r → SumsUp t g (passFrom s (turn s l i e) l) (getD vs i 0)
 
-pub record Underway (s : System) (q : ℕ) (lead l : List ℕ) (e r p count first : ℕ) (begun : List ℕ) : Type 0 where
+pub record WordUnderway (s : System) (q : ℕ) (lead l : List ℕ) (e r p count first : ℕ) (begun : List ℕ) : Type 0 where
   pub entry : Path s q lead e
   pub entry-state : e < s .states
   pub passes : Begun s l e r p begun

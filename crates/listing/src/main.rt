@@ -1,4 +1,4 @@
-// The listing program of document 01: it reads one Rabin table on standard input and prints the listing of its translation, or its
+// The listing program (RULES, "Listing"): it reads one Rabin table on standard input and prints the listing of its translation, or its
 // refusal. `list` has the whole listing at the front of a text, proved to fit; this program lends the arrays, reads and writes.
 use libc::STDIN_FILENO;
 use libc::STDOUT_FILENO;

@@ -2,7 +2,7 @@
 --     front-length, front-at     on success an array begins with what the translator found
 --     lines-same                 lines over arrays that agree where they are read
 --     success                    what the translator promises, where its number is 0; then:
---     taken                      the table and the arrays are taken
+--     facts                      the table and the arrays are facts
 --     shown                      there is room in the arrays for the rows
 --     listing-done, done-reach   the listing is the head and the lines of the arrays as they are left, and is in reach
 --     listing-refused, refused-reach     on a refusal the listing is its line, and is in reach
@@ -24,7 +24,7 @@ use Rattle.rules.specs.Says.{afterwards, TranslateSays, rowArrays}
 use Rattle.rules.specs.Listings.{lineAt, rowLines, linesAt, lines, head, refusalLine, tableListing, listing, ListingSays}
 use Rattle.rules.proofs.Arrays.{cells-length, row-ends}
 use Rattle.rules.proofs.Texts.{each-same}
-use Rattle.rules.proofs.Refusals.{TakenTranslation, taken-translation, translation-below}
+use Rattle.rules.proofs.Refusals.{TranslationFacts, translation-facts, translation-below}
 use Rattle.rules.proofs.ListingBounds.{refused-length, listing-bound}
 use Rattle.listing_text.specs.Writing.{InReach, Wrote, Shown}
 
@@ -73,15 +73,15 @@ module _ {bs : List ℕ} {c : ℕ} {ts ts′ ps ps′ ss ss′ es es′ : List �
   record-length : length (recordNumbers bs c) ≡ rows
   record-length = length-map (tableRows bs c) (λ r. decimal (r .memory)) ∙ sym (says .count)
 
-  pub taken : TakenTranslation bs c (length ts) (length ps) (length ss) (length es)
-  taken = taken-translation bs c (length ts) (length ps) (length ss) (length es) (sym (says .refusal))
+  pub facts : TranslationFacts bs c (length ts) (length ps) (length ss) (length es)
+  facts = translation-facts bs c (length ts) (length ps) (length ss) (length es) (sym (says .refusal))
 
   pub shown : Shown rows (tableOf bs .letters) ts′ ps′ ss′ es′
   shown =
       let k = c * tableOf bs .letters in
       record {
-        most-rows = rw (says .count) (le-trans (taken .rows-fit) (taken .arrays .most-rows));
-        most-letters = taken .table .sizes .most-letters;
+        most-rows = rw (says .count) (le-trans (facts .rows-fit) (facts .arrays .most-rows));
+        most-letters = facts .table .sizes .most-letters;
         target-cells = omega (arith, target-length, front-length k (rowTargets bs c) ts ts′ (says .target-array));
         priority-cells = omega (arith, priority-length, front-length k (rowPriorities bs c) ps ps′ (says .priority-array));
         states = omega (arith, state-length, front-length c (sourceStates bs c) ss ss′ (says .source-array));
@@ -104,7 +104,7 @@ module _ {bs : List ℕ} {c : ℕ} {ts ts′ ps ps′ ss ss′ es es′ : List �
 
   pub done-reach : InReach 0 (head rows (tableOf bs .letters) (tableOf bs .pairs) ++ lines rows (tableOf bs .letters) ts′ ps′ ss′ es′)
   done-reach =
-      let cells : c * min (tableOf bs .letters) maxLetters ≤ maxRows * maxLetters = mul-le-mul {m₂ = maxLetters} (taken .arrays .most-rows) (omega arith) in
+      let cells : c * min (tableOf bs .letters) maxLetters ≤ maxRows * maxLetters = mul-le-mul {m₂ = maxLetters} (facts .arrays .most-rows) (omega arith) in
       record { ends = omega (arith, ap length listing-done, listing-bound bs c (length ts) (length ps) (length ss) (length es)) }
 
 -- ---- both outcomes

@@ -2,7 +2,7 @@
 --     farthest                   the last place at which a text may end, so that no place is beyond a number of 64 bits
 --     InReach at t               the text t, written from place `at` on, ends there at the latest
 --     Wrote at t o o′ r          the array o has become o′ by writing t from place `at` on, and r is the place behind it
---     Shown n m ts ps ss rs      there is room in these arrays for n rows of m letters, both within document 01's ranges
+--     Shown n m ts ps ss rs      there is room in these arrays for n rows of m letters, both within their ranges
 use mathlib.Core.Path.{_≡_}
 use mathlib.Core.List.{List}
 use Prim.Native.Nat.{ℕ, _+_, _*_, _≤_}

@@ -2,7 +2,7 @@
 -- A walk is a list of marks, and it is closed if it carries the record back to itself. `closed-walk`: the largest priority of a closed
 -- walk is even exactly if some pair of the record is never prohibited and once required on it.
 --     moved-length, moved-occurs     a move keeps what a record holds
---     after x o                      what stands behind x in o
+--     after x o                      what follows x in o
 --     after-moved                    behind a pair that is not prohibited a move only drops the prohibited ones
 --     drop-moved                     a tail in which nothing is prohibited stays as it is
 --     priority-none, priority-last, priority-is     the last pair with either mark decides the priority
@@ -74,7 +74,7 @@ module _ (p : ℕ → Bool) where
       (λ e. rw e (rw (keep-hold x o h)))
       (λ e. rw e (by (eqb x i) (λ f. clash h (rw (← eqb-true x i f) at e)) (λ f. rw f (keep-hold x o h))))
 
--- ---- what stands behind a pair
+-- ---- what follows a pair
 abbrev pub after : ℕ → List ℕ → List ℕ
 after x [] = []
 after x (i ∷ o) = pick (eqb x i) o (after x o)
@@ -168,7 +168,7 @@ module _ (m : Marks) where
       let e : suc p + length u ≡ p + suc (length u) = omega arith in
       scan-last u i v (suc p) _ h q ∙ ap (λ (n : ℕ). pick (m .prohibited i) (suc (2 * n)) (2 * n)) e
 
-  -- document 01's rule: the last marked pair decides, and there may be none
+  -- RULES, "Priorities": the last pair with a mark decides, and there may be none
   pub priority-none : (o : List ℕ) → any marked o ≡ false → priority m o ≡ 1
   priority-none o h = scan-quiet o 1 1 h
 

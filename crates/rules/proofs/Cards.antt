@@ -1,4 +1,4 @@
--- All marked cards of document 01 hold, by computation, and so does each that is cited.
+-- All cards with a star (RULES, "Cards") hold, by computation, and so does each that is cited.
 --     cards-hold     every card of the list
 --     card-holds     a card of the list
 --     card-answers   a judged card: both judges give the card's answer, the second on what the translator leaves

@@ -1,5 +1,5 @@
--- Demand 3 for the tables of document 01, and for the arrays that the translator leaves.
---     demands          every table that is translated agrees with its translation, whatever stands behind the rows
+-- Demand 3 for Rabin tables, and for the arrays that the translator leaves.
+--     demands          every table that is translated agrees with its translation, whatever the entries past the rows are
 --     success-front    what the translator found is the front of an array
 --     says-agrees      a translator that keeps its promise leaves arrays that agree with the table
 --     says-judged      and are judged as the rows alone are
@@ -17,7 +17,7 @@ use Rattle.rules.specs.Judges.{satisfies, parityJudge}
 use Rattle.rules.specs.Claims.{tableRows, rowTargets, rowPriorities, sourceStates, exceeds, Agrees, Demands}
 use Rattle.rules.specs.Says.{afterwards, TranslateSays, TranslationAgrees, rowArrays}
 use Rattle.rules.proofs.Bools.{and-parts}
-use Rattle.rules.proofs.Refusals.{table-facts, taken-translation}
+use Rattle.rules.proofs.Refusals.{table-facts, translation-facts}
 use Rattle.rules.proofs.Demand3.{demand-3}
 use Rattle.rules.proofs.RabinTables.{rabin-lawful}
 
@@ -42,7 +42,7 @@ demands bs c h ts ps ss =
     agrees bs c (eqb-true (tableFault bs) 0 (r .0)) (leb-true c maxRows (v .0)) (not-true f (v .1)) ts ps ss
 
 -- ---- the arrays that the translator leaves
--- what stands behind the rows in an array that holds xs after success
+-- the entries past the rows in an array that holds xs after success
 behind : ℕ → List ℕ → List ℕ → List ℕ
 behind k xs o = replicate (k - length xs) 0 ++ drop (length (xs ++ replicate (k - length xs) 0)) o
 
@@ -58,7 +58,7 @@ pub says-agrees : (bs : List ℕ) (c : ℕ) (ts ts′ ps ps′ ss ss′ es es′
     → TranslateSays bs c (rowArrays ts ps ss es) (rowArrays ts′ ps′ ss′ es′) number count → TranslationAgrees bs ts′ ps′ ss′ number count
 says-agrees bs c ts ts′ ps ps′ ss ss′ es es′ number count says z =
     let k = c * tableOf bs .letters in
-    let ok = taken-translation bs c (length ts) (length ps) (length ss) (length es) (sym (says .refusal) ∙ z) in
+    let ok = translation-facts bs c (length ts) (length ps) (length ss) (length es) (sym (says .refusal) ∙ z) in
     let all = agrees bs c (ok .fault) (ok .arrays .most-rows) (ok .not-full) (behind k (rowTargets bs c) ts) (behind k (rowPriorities bs c) ps) (behind c (sourceStates bs c) ss) in
     let at-ts = after-success number k (rowTargets bs c) ts ts′ z (says .target-array) in
     let at-ps = after-success number k (rowPriorities bs c) ps ps′ z (says .priority-array) in
@@ -70,6 +70,6 @@ pub says-judged : (bs : List ℕ) (c : ℕ) (ts ts′ ps ps′ ss ss′ es es′
     → TranslateSays bs c (rowArrays ts ps ss es) (rowArrays ts′ ps′ ss′ es′) number count → number ≡ 0 → (lead l : List ℕ)
     → parityJudge count (tableOf bs .letters) ts′ ps′ lead l ≡ parityJudge (length (tableRows bs c)) (tableOf bs .letters) (rowTargets bs c) (rowPriorities bs c) lead l
 says-judged bs c ts ts′ ps ps′ ss ss′ es es′ number count says z lead l =
-    let ok = taken-translation bs c (length ts) (length ps) (length ss) (length es) (sym (says .refusal) ∙ z) in
+    let ok = translation-facts bs c (length ts) (length ps) (length ss) (length es) (sym (says .refusal) ∙ z) in
     let alone = agrees bs c (ok .fault) (ok .arrays .most-rows) (ok .not-full) [] [] [] .judges lead l in
     says-agrees bs c ts ts′ ps ps′ ss ss′ es es′ number count says z .judges lead l ∙ sym (rw (append-nil (rowTargets bs c), append-nil (rowPriorities bs c)) at alone)

@@ -1,6 +1,6 @@
 -- How long a listing is.
 --     field-length, optional-length     the field of a number with few digits
---     line-length, head-length, refused-length     a line, the head and the line of a refusal, where every number is within document 01's ranges
+--     line-length, head-length, refused-length     a line, the head and the line of a refusal, where every number is within its range
 --     step-priority-bound     a priority is at most 2k + 1, k the table's pairs
 --     listing-bound           a listing is at most as long as its bound says, for all bytes, capacities and lengths of the arrays
 --     listing-whole           in an array with room for the bound the listing is written whole
@@ -28,7 +28,7 @@ use Rattle.rules.proofs.Appearance.{priority-bound}
 use Rattle.rules.proofs.Exploration.{place-most}
 use Rattle.rules.proofs.Arrays.{cells-at, mapped-at}
 use Rattle.rules.proofs.Steps.{step-missing, step-inside, step-crossing}
-use Rattle.rules.proofs.Refusals.{TakenTranslation, taken-translation, translation-below}
+use Rattle.rules.proofs.Refusals.{TranslationFacts, translation-facts, translation-below}
 use Rattle.rules.proofs.RabinTables.{ordering-length, table-rows, reached-ordering, reached-state}
 use Rattle.rules.proofs.Numbers.{decimal-below, ordering-digits}
 use Rattle.rules.proofs.Texts.{numeral-length, each-length, put-front}
@@ -72,7 +72,7 @@ step-priority-bound t r a =
     (λ e. rw (step-missing s k r a (leb-true (t .states) _ e)) (omega arith))
     (λ e. by (isInside s (r .source) a) (λ i. rw (step-inside s k r a (leb-false (t .states) _ e) i) (priority-bound (marksOf t (r .source) a) (r .memory))) (λ i. rw (step-crossing s k r a (leb-false (t .states) _ e) i) (omega arith)))
 
-module _ (bs : List ℕ) (c a b d e : ℕ) (ok : TakenTranslation bs c a b d e) where
+module _ (bs : List ℕ) (c a b d e : ℕ) (ok : TranslationFacts bs c a b d e) where
   abbrev t : Table
   t = tableOf bs
 
@@ -138,7 +138,7 @@ unfolding listing
 listing-bound bs c a b d e =
     by
     (eqb (translateFault bs c a b d e) 0)
-    (λ z. rw z (table-bound bs c a b d e (taken-translation bs c a b d e (eqb-true (translateFault bs c a b d e) 0 z))))
+    (λ z. rw z (table-bound bs c a b d e (translation-facts bs c a b d e (eqb-true (translateFault bs c a b d e) 0 z))))
     (λ z. rw z (omega (arith, refused-length (translateFault bs c a b d e) (translation-below bs c a b d e))))
 
 pub listing-whole : {bs o o′ : List ℕ} {c r : ℕ} {x x′ : RowArrays} → ListingSays bs c x x′ o o′ r → listingBound c (tableOf bs .letters) ≤ length o

@@ -1,5 +1,5 @@
 -- Listings by computation, with the listing program's capacity and four arrays for two letters.
---     textOfT, listing-of-T                 document 01's table T: its nine lines, byte for byte
+--     textOfT, listing-of-T                 the table T: its nine lines, byte for byte
 --     textOfMissing, listing-of-missing     an empty record and a missing transition: dashes
 --     textOfShort, listing-of-short         an array below its size: a refusal
 use mathlib.Core.Path.{_≡_, refl}

@@ -23,6 +23,7 @@ use Rattle.rules.specs.Claims.{exceeds}
 use Rattle.rules.specs.Says.{over, componentsFault, areShort, translateFault, ComponentsSay, ComponentsMean, TranslateSays, TranslationMeans, RowArrays, RabinSays, RabinMeans, ParitySays, ParityMeans}
 use Rattle.rules.proofs.Bools.{by}
 use Rattle.rules.proofs.Reach.{together-view, component-together, component-least, component-same}
+use Rattle.rules.proofs.Reaching.{component-below}
 use Rattle.rules.proofs.Runs.{stops-view, recurs-view}
 use Rattle.rules.proofs.Steps.{step-missing, step-inside, step-crossing}
 use Rattle.rules.proofs.Appearance.{priority-is}
@@ -32,14 +33,11 @@ use Rattle.rules.proofs.Filling.{over-at}
 use Rattle.rules.proofs.Refusals.{first-zero, when-none, fault-below, table-facts, word-facts, parity-facts}
 
 -- ---- components
-component-state : (s : System) (q : ℕ) → q < s .states → componentOf s q < s .states
-component-state s q l = omega (arith, component-least s q q (component-same s q q l l .1 refl))
-
 pub components-are : (s : System) → ComponentsAre s (componentOf s)
 components-are s =
     record {
       shared = λ p q lp lq. let c = component-same s p q lp lq in let v = together-view s p q in (λ e. v .0 (c .1 e), λ h. c .0 (v .1 h));
-      member = λ q l. (component-state s q l, sym (component-same s q (componentOf s q) l (component-state s q l) .0 (component-together s q l)));
+      member = λ q l. (component-below s q l, sym (component-same s q (componentOf s q) l (component-below s q l) .0 (component-together s q l)));
       smallest = λ p q lp lq e. component-least s q p (component-same s q p lq lp .1 (sym e));
     }
 

@@ -1,13 +1,13 @@
 -- What follows where nothing is refused.
 --     first-none, first-zero, when-none     a chain of refusals that gives none
---     in-range         a size from 1 to the most, and what is tested behind it
---     size-facts      what holds of sizes that are taken
---     table-facts      what holds of a table that is taken
---     word-facts       what holds of a word that is taken
---     parity-facts     what holds of a parity table that is taken
+--     in-range         a size from 1 to the most, and what is tested after it
+--     size-facts       what holds of sizes within their ranges
+--     table-facts      what holds of a table that is well formed
+--     word-facts       what holds of a word with nothing to refuse
+--     parity-facts     what holds of a parity table with nothing to refuse
 --     parity-none      a parity table with nothing to refuse
---     array-facts     what holds of a capacity and of lent arrays that are taken, and arrays-enough the other way
---     taken-translation     what holds of a table and of lent arrays that are translated
+--     array-facts      what holds of a capacity in range and of lent arrays that are long enough, and arrays-enough the other way
+--     translation-facts     what holds of a table and of lent arrays that are translated
 --     translated-none       a table that is translated, with room in the arrays for any letters: nothing to refuse
 --     fault-below, translation-below     the refusals of a table are those up to the marks', of a translation those up to full
 use mathlib.Core.Path.{_≡_, refl}
@@ -72,7 +72,7 @@ size-facts n m k h =
       most-cells = mul-le-mul (a .1) (b .1);
     }
 
--- ---- a capacity and lent arrays that are taken
+-- ---- a capacity in range and lent arrays that are long enough
 pub record ArrayFacts (c m a b d e : ℕ) : Type 0 where
   pub some-rows : 1 ≤ c
   pub most-rows : c ≤ maxRows
@@ -102,7 +102,7 @@ arrays-enough {c} {m} {a} {b} {d} {e} t =
     rw
     (ne-eqb c 0 (λ z. omega (arith, t .some-rows)), le-ltb maxRows c (t .most-rows), le-ltb a (c * m) (t .target-room), le-ltb b (c * m) (t .priority-room), le-ltb d c (t .state-room), le-ltb e c (t .record-room))
 
--- ---- a table that is taken
+-- ---- a table that is well formed
 pub record TableFacts (bs : List ℕ) : Type 0 where
   pub sizes : SizeFacts (tableOf bs .states) (tableOf bs .letters) (tableOf bs .pairs)
   pub exact : length bs ≡ tableLength (tableOf bs .states) (tableOf bs .letters)
@@ -138,7 +138,7 @@ table-facts bs h =
       marks-good = g;
     }
 
--- ---- a word that is taken
+-- ---- a word with nothing to refuse
 pub record WordFacts (m : ℕ) (lead l : List ℕ) : Type 0 where
   pub some-loop : 0 < length l
   pub most-lead : length lead ≤ maxPiece
@@ -161,7 +161,7 @@ word-facts m lead l h =
       loop-letters = c .1;
     }
 
--- ---- a parity table that is taken
+-- ---- a parity table with nothing to refuse
 pub record ParityFacts (n m : ℕ) (ts ps : List ℕ) : Type 0 where
   pub some-rows : 1 ≤ n
   pub most-rows : n ≤ maxRows
@@ -218,16 +218,16 @@ fault-below bs =
     (when-below (badMarks (t .pairs) (t .targets) (t .marks)) Refusal.marks (omega arith)))))))
 
 -- ---- a translation
-pub record TakenTranslation (bs : List ℕ) (c a b d e : ℕ) : Type 0 where
+pub record TranslationFacts (bs : List ℕ) (c a b d e : ℕ) : Type 0 where
   pub fault : tableFault bs ≡ 0
   pub table : TableFacts bs
   pub arrays : ArrayFacts c (tableOf bs .letters) a b d e
   pub not-full : exceeds bs c ≡ false
   pub rows-fit : length (tableRows bs c) ≤ c
 
-pub taken-translation : (bs : List ℕ) (c a b d e : ℕ) → translateFault bs c a b d e ≡ 0 → TakenTranslation bs c a b d e
+pub translation-facts : (bs : List ℕ) (c a b d e : ℕ) → translateFault bs c a b d e ≡ 0 → TranslationFacts bs c a b d e
 unfolding translateFault
-taken-translation bs c a b d e z =
+translation-facts bs c a b d e z =
     let m = tableOf bs .letters in
     let full = exceeds bs c in
     let r = first-zero (tableFault bs) (firstOf (arraysFault c m a b d e) (when full Refusal.full)) z in

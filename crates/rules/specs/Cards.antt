@@ -1,4 +1,4 @@
--- The cards of document 01 that are marked, and its table T: examples shown of the rules themselves, jointly, by `cards-hold` (proofs/Cards). The
+-- The cards with a star (RULES, "Cards"), and the table T: examples shown of the rules themselves, jointly, by `cards-hold` (proofs/Cards). The
 -- program `cards` runs them, and its contracts cite the list.
 --     Card                   one example:
 --     judged bs lead l x     the table's judge gives x for the word, and so does the judge of its translation
@@ -8,7 +8,7 @@
 --     CardJudged, CardTranslated what the cards of these two kinds claim
 --     Holds c                what the card claims
 --     AllHold cs             every card of a list holds
---     tableT                 document 01's table T: two states, two letters, two pairs
+--     tableT                 the table T: two states, two letters, two pairs
 --     selfLoop k p r         one state and one letter that loops on it, k pairs, a prohibited and a required byte
 --     onlyCrossing           state 0 goes to 1 with both bits of pair 1, state 1 to itself with none
 --     oneMissing             one state: letter 0 loops, letter 1 is missing

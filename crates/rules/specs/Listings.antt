@@ -1,4 +1,4 @@
--- The listing of a translation: the text that document 01's listing program prints, byte for byte.
+-- The listing of a translation: the text that the listing program prints (RULES, "Listing"), byte for byte.
 --     field n end                  a number and the byte that ends its field
 --     optional none n end          the same, a dash for the number where there is none
 --     line i q r a t p             the line of row i with source state q and record number r, and of letter a with target t and priority p;

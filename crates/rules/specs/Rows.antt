@@ -22,7 +22,7 @@
 --                                   more than c, which is full
 --     targetNumber g none rs r a    number: that of the row to which r leads by a, `none` where the transition is missing
 --     allTargets g none rs, allPriorities g rs    lists: those of each row, joined
---     Read g none rs p ts ps        claim: the cells below p are read: ts has the number of the row to which each leads among rs, `none` where
+--     CellsRead g none rs p ts ps        claim: the cells below p are read: ts has the number of the row to which each leads among rs, `none` where
 --                                   the transition is missing, and ps its priority
 --     Row                           record: a source state with a memory (a state of the parity automaton)
 --     row q m                       the row of state q and memory m
@@ -136,7 +136,7 @@ allTargets g none rs = joined (λ r. tabulate (g .letters) 0 (targetNumber g non
 abbrev pub allPriorities : {A : Type 0} → Plan A → List A → List ℕ
 allPriorities g rs = joined (λ r. tabulate (g .letters) 0 (λ a. g .step r a .prio)) rs
 
-pub record Read {A : Type 0} (g : Plan A) (none : ℕ) (rs : List A) (p : ℕ) (ts ps : List ℕ) : Type 0 where
+pub record CellsRead {A : Type 0} (g : Plan A) (none : ℕ) (rs : List A) (p : ℕ) (ts ps : List ℕ) : Type 0 where
   pub targets : (j a : ℕ) → a < g .letters → cell (g .letters) j a < p → getD ts (cell (g .letters) j a) 0 ≡ targetNumber g none rs (rowAt g rs j) a
   pub priorities : (j a : ℕ) → a < g .letters → cell (g .letters) j a < p → getD ps (cell (g .letters) j a) 0 ≡ g .step (rowAt g rs j) a .prio
   -- what is read leads to rows that are known

@@ -29,7 +29,7 @@ use Rattle.rules.proofs.Reach.{within-view}
 use Rattle.rules.proofs.Filling.{over-at}
 use Rattle.rules.proofs.Refusals.{TableFacts, table-facts}
 use Rattle.rules.proofs.Reaching.{SameGo, same-component, same-within}
-use Rattle.tables.specs.Layouts.{wideTarget, targetIn, maskIn, TargetsLaid, MarksLaid, targetCells, markCells, IsTable, countedPairs, requiredIn, pairBits, countedIn}
+use Rattle.tables.specs.Layouts.{wideTarget, targetEntry, maskEntry, TargetsLaid, MarksLaid, targetCells, markCells, IsTable, countedPairs, requiredIn, pairBits, countedIn}
 use Rattle.tables.specs.Parts.{WellFormed, Listed}
 use Rattle.tables.proofs.Cells.{target-count, marks-small}
 
@@ -81,11 +81,11 @@ module _ (bs : List ℕ) (formed : WellFormed bs) where
   targets-laid old ts lt e =
       record {
         enough = lt;
-        entry = λ q a l r. let c = cell-within n m q a l r in rw e (over-at (targetIn t) (n * m) old (cell m q a) c) ∙ ap wideTarget (getD-any (t .targets) (cell m q a) 0 n (omega (arith, target-count bs formed)));
+        entry = λ q a l r. let c = cell-within n m q a l r in rw e (over-at (targetEntry t) (n * m) old (cell m q a) c) ∙ ap wideTarget (getD-any (t .targets) (cell m q a) 0 n (omega (arith, target-count bs formed)));
       }
 
   pub marks-laid : (old ms : List ℕ) → n * m ≤ length ms → ms ≡ over (markCells t) old → MarksLaid t ms
-  marks-laid old ms lm e = record { enough = lm; entry = λ q a l r. rw e (over-at (maskIn t) (n * m) old (cell m q a) (cell-within n m q a l r)) }
+  marks-laid old ms lm e = record { enough = lm; entry = λ q a l r. rw e (over-at (maskEntry t) (n * m) old (cell m q a) (cell-within n m q a l r)) }
 
   pub is-table : IsTable t
   is-table =

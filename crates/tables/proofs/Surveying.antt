@@ -1,5 +1,4 @@
 -- Turns of the survey's loops and what they come to, for any system and any tests on its transitions.
---     component-below                 the number of a component is a state
 --     listed                          an array with a list at its front
 --     home-inside                     which transitions are inside, by the numbers of components
 --     gathered-none, gathered-more    the tests that each component passes, one state more
@@ -9,7 +8,6 @@ use mathlib.Core.Path.{_≡_, refl, sym, _∙_}
 use mathlib.Core.Bool.{Bool, _&&_, or-comm}
 use mathlib.Core.List.{List}
 use Prim.Native.Nat.{ℕ, _+_, _^_, _<_, _≤_}
-use native.Mathlib.Nat.{lt-of-le-of-lt}
 use native.Mathlib.Numerals.{add-one}
 use native.Mathlib.Omega.{arith}
 use lib.Dec.{eqb, ltb}
@@ -22,7 +20,8 @@ use Rattle.rules.specs.Basics.{pick, bit, anyBelow, tabulate, asBits}
 use Rattle.rules.specs.Says.{over}
 use Rattle.rules.specs.Systems.{System, isInside, componentOf, someWithin}
 use Rattle.rules.proofs.Bools.{by}
-use Rattle.rules.proofs.Reach.{together-refl, component-least, inside-component, within-component}
+use Rattle.rules.proofs.Reach.{inside-component, within-component}
+use Rattle.rules.proofs.Reaching.{component-below}
 use Rattle.tables.specs.Parts.{Listed, Gathered}
 use Rattle.rules.proofs.Filling.{over-at}
 use Rattle.rules.proofs.Bits.{bit-or, bit-none, bits-are}
@@ -44,9 +43,6 @@ counted-more s b q a met marks h f i =
     kept = by (isInside s q a) (λ e. rw e (f i)) (λ e. rw e (bit-none i))
 
 module _ (s : System) where
-  pub component-below : (q : ℕ) → q < s .states → componentOf s q < s .states
-  component-below q l = lt-of-le-of-lt (component-least s q q (together-refl s q)) l
-
   pub home-inside : (components : List ℕ) → Listed (s .states) (componentOf s) components → (q a : ℕ) → q < s .states
       → ltb (s .go q a) (s .states) && eqb (getD components (s .go q a) 0) (getD components q 0) ≡ isInside s q a
   home-inside components f q a l =
@@ -67,7 +63,7 @@ module _ (s : System) where
         home = componentOf s q
 
         room : home < length sets
-        room = omega (arith, component-below q l)
+        room = omega (arith, component-below s q l)
 
         met-at : (c i : ℕ) → c < s .states → bit i (getD (set sets home (bitOr (getD sets home 0) met)) c 0)
             ≡ anyBelow (q + 1) (λ p. eqb (componentOf s p) c && anyBelow (s .letters) (λ a. isInside s p a && b i p a))
@@ -81,7 +77,7 @@ module _ (s : System) where
                 ≡ anyBelow (q + 1) (λ p. eqb (componentOf s p) home && anyBelow (s .letters) (λ a. isInside s p a && b i p a))
             same =
                 rw
-                (getD-set-same sets home (bitOr (getD sets home 0) met) 0 room, add-one q, eq-eqb home home refl, bit-or i (getD sets home 0) met, g .tests home i (component-below q l), m i)
+                (getD-set-same sets home (bitOr (getD sets home 0) met) 0 room, add-one q, eq-eqb home home refl, bit-or i (getD sets home 0) met, g .tests home i (component-below s q l), m i)
                 (or-comm (anyBelow q (λ p. eqb (componentOf s p) home && anyBelow (s .letters) (λ a. isInside s p a && b i p a))) (anyBelow (s .letters) (λ a. isInside s q a && b i q a)))
 
         small-at : (c : ℕ) → getD (set sets home (bitOr (getD sets home 0) met)) c 0 < 2 ^ k
@@ -100,4 +96,4 @@ module _ (s : System) where
         → getD sets (getD components q 0) 0 ≡ asBits k (λ i. someWithin s (b i) q)
     gathered-all components sets f g q l =
         rw (f .entry q l)
-        (bits-are k (getD sets (componentOf s q) 0) (λ i. someWithin s (b i) q) (g .below (componentOf s q)) (λ i li. g .tests (componentOf s q) i (component-below q l) ∙ sym (within-component s (b i) q l)))
+        (bits-are k (getD sets (componentOf s q) 0) (λ i. someWithin s (b i) q) (g .below (componentOf s q)) (λ i li. g .tests (componentOf s q) i (component-below s q l) ∙ sym (within-component s (b i) q l)))

@@ -1,7 +1,7 @@
 -- A table laid out in two arrays, one entry for each cell, and what is surveyed of such arrays. A prime marks an array's contents at exit.
 --     wideTarget x                  number: a target as 16 bits, 65,535 where the transition is missing
---     targetIn t c                  number: the target of cell c as 16 bits
---     maskIn t c                    number: its marks as one mask, the required byte above the prohibited byte
+--     targetEntry t c                  number: the target of cell c as 16 bits
+--     maskEntry t c                    number: its marks as one mask, the required byte above the prohibited byte
 --     targetCells t, markCells t    lists: the same for each cell
 --     TargetsLaid t ts              claim: the array holds the targets of t, by state and letter
 --     MarksLaid t ms                claim: the array holds the masks of t, by state and letter
@@ -32,17 +32,17 @@ use Rattle.rules.specs.Says.{over}
 abbrev pub wideTarget : ℕ → ℕ
 wideTarget x = pick (eqb x noState) noRow x
 
-abbrev pub targetIn : Table → ℕ → ℕ
-targetIn t c = wideTarget (getD (t .targets) c 0)
+abbrev pub targetEntry : Table → ℕ → ℕ
+targetEntry t c = wideTarget (getD (t .targets) c 0)
 
-abbrev pub maskIn : Table → ℕ → ℕ
-maskIn t c = getD (t .marks) (suc (2 * c)) 0 * 256 + getD (t .marks) (2 * c) 0
+abbrev pub maskEntry : Table → ℕ → ℕ
+maskEntry t c = getD (t .marks) (suc (2 * c)) 0 * 256 + getD (t .marks) (2 * c) 0
 
 abbrev pub targetCells : Table → List ℕ
-targetCells t = tabulate (t .states * t .letters) 0 (targetIn t)
+targetCells t = tabulate (t .states * t .letters) 0 (targetEntry t)
 
 abbrev pub markCells : Table → List ℕ
-markCells t = tabulate (t .states * t .letters) 0 (maskIn t)
+markCells t = tabulate (t .states * t .letters) 0 (maskEntry t)
 
 pub record TargetsLaid (t : Table) (ts : List ℕ) : Type 0 where
   pub enough : t .states * t .letters ≤ length ts

@@ -34,7 +34,7 @@ use Rattle.tables.specs.Parts.{WellFormed, Listed}
 use Rattle.tables.proofs.Laying.{targets-laid, marks-laid, laid-homes, laid-counted}
 use Rattle.tables.proofs.Surveying.{home-inside, listed}
 use Rattle.explore.specs.Cells.{span}
-use Rattle.translate.specs.Cells.{cutMarks, entryKey, cellCode, codeOf, codeIn, risingKey, CellsRoom, Written, TableCodes, HasCells}
+use Rattle.translate.specs.Cells.{cutMarks, entryKey, cellCode, codeOf, codeIn, risingKey, CodesRoom, Written, TableCodes, HasCells}
 
 -- ---- room for the cells
 -- a refusal that is given only with another adds nothing
@@ -153,7 +153,7 @@ module _ {t : Table} {states letters start : ℕ} {ts ms : List ℕ} (good : IsT
     pub first-key : risingKey start (getD cs start 0) ≡ entryKey t (t .start)
     first-key = rw (x .start-state) (key-is (t .start) (good .start-state))
 
-    pub cells-room : CellsRoom states letters ts ms hs cs
+    pub cells-room : CodesRoom states letters ts ms hs cs
     cells-room =
         rw (x .states, x .letters)
         (record { few-states = good .few-states; few-letters = good .few-letters; target-room = x .targets .enough; mark-room = x .marks .enough; home-room = hl .enough; set-room = cl .enough })

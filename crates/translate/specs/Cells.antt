@@ -7,7 +7,7 @@
 --                              there, by the homes hs of all states and the keys e at which they are entered
 --     risingKey q k            the key of the row at q with the pairs of the set k, rising
 --     codeIn n m .. q a        the code of the transition of q by a, by the laid-out cells
---     CellsRoom n m ..         claim: the sizes are in range, and the arrays have an entry for each cell or each state
+--     CodesRoom n m ..         claim: the sizes are in range, and the arrays have an entry for each cell or each state
 --     Written n m f cells      claim: the cells hold what f says of their state and letter
 --     TableCodes t cells       claim: the codes of all cells, and nothing after them
 --     HasCells bs k            claim: an array of k entries has room for the cells of the table that the bytes give, if it is well formed
@@ -60,7 +60,7 @@ abbrev pub codeIn : ℕ → ℕ → List ℕ → List ℕ → List ℕ → List 
 codeIn n m ts ms hs cs q a =
     codeOf n (getD ts (cell m q a) 0) (getD ms (cell m q a) 0) (getD hs q 0) (getD cs q 0) hs (λ x. risingKey x (getD cs x 0))
 
-pub record CellsRoom (n m : ℕ) (ts ms hs cs : List ℕ) : Type 0 where
+pub record CodesRoom (n m : ℕ) (ts ms hs cs : List ℕ) : Type 0 where
   pub few-states : n ≤ maxStates
   pub few-letters : m ≤ maxLetters
   pub target-room : n * m ≤ length ts

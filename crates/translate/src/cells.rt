@@ -10,7 +10,7 @@ ghost use lib.ListN.{length, getD};
 ghost use Rattle.rules.specs.Limits.{maxStates, maxLetters};
 ghost use Rattle.tables.specs.Parts.{Listed};
 ghost use Rattle.explore.specs.Cells.{crossingKind};
-ghost use Rattle.translate.specs.Cells.{codeOf, codeIn, risingKey, CellsRoom, Written};
+ghost use Rattle.translate.specs.Cells.{codeOf, codeIn, risingKey, CodesRoom, Written};
 
 // The code of a transition, by its target and marks, the home of its state and the pairs that count there.
 fn cell_code(
@@ -70,7 +70,7 @@ pub(crate) fn write_codes(
     counted: &[u8],
     cells: &mut [u32],
 ) -> u32
-    requires { ⌜ CellsRoom n m (now targets) (now marks) (now homes) (now counted) × (first < n) × (n * m ≤ length (now cells)) ⌝ }
+    requires { ⌜ CodesRoom n m (now targets) (now marks) (now homes) (now counted) × (first < n) × (n * m ≤ length (now cells)) ⌝ }
     ensures { λ r. ⌜ (r ≡ risingKey first (getD (now (counted .entry)) first 0)) × Written n m (codeIn n m (now (targets .entry)) (now (marks .entry)) (now (homes .entry)) (now (counted .entry))) (now (cells .exit)) ⌝ }
 {
     let mut entries = [0; MAX_STATES as usize];

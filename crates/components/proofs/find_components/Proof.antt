@@ -11,17 +11,17 @@ use Rattle.rules.specs.Judges.{paritySystem}
 use Rattle.rules.proofs.Filling.{filled-over}
 use Rattle.rules.proofs.Meanings.{components-over}
 use Rattle.components.specs.Places.{at}
-use Rattle.components.specs.Searching.{numbersIn, Room}
+use Rattle.components.specs.Searching.{numbersIn, SearchRoom}
 use Rattle.components.specs.Calls.{componentsFit}
 use Rattle.components.proofs.Searches.{same-or}
-use Rattle.components.proofs.Turns.{room-kept, Underway, underway-none, underway-more, searched-none, all-found}
+use Rattle.components.proofs.Turns.{room-kept, SearchUnderway, underway-none, underway-more, searched-none, all-found}
 use Rattle.components.proofs.Fits.{components-room, components-tested}
 use Rattle.components.proofs.find_components.Statement.{statement}
 use Rattle.components.proofs.find_components.Tie as tie
 
 abbrev Inv-loop : tie.InvT-loop
 Inv-loop states letters targets work₀ out₀ fits q₀ work out q =
-    (q ≤ states) × Underway (paritySystem states letters targets) 0 0 0 targets work₀ work out₀ out × ((i : ℕ) → i < q → 0 < at (numbersIn states work) i)
+    (q ≤ states) × SearchUnderway (paritySystem states letters targets) 0 0 0 targets work₀ work out₀ out × ((i : ℕ) → i < q → 0 < at (numbersIn states work) i)
 
 abbrev μ-loop : tie.MeasureT-loop
 μ-loop states letters targets work₀ out₀ fits q₀ work out q = states - q
@@ -36,7 +36,7 @@ module _ (c : tie.Else1 Inv-loop μ-loop) where
       let a = start .args in
       sym (components-tested (a .states) (a .letters) (a .targets .now) (a .work .now) (a .out .now) _ (c .before .cells-fit .ensures)) ∙ not-false _ (c .if1 .left)
 
-  room : let a = start .args in Room (paritySystem (a .states) (a .letters) (a .targets .now)) (a .targets .now) (a .work .now) × (a .states ≤ length (a .out .now))
+  room : let a = start .args in SearchRoom (paritySystem (a .states) (a .letters) (a .targets .now)) (a .targets .now) (a .work .now) × (a .states ≤ length (a .out .now))
   room = let a = start .args in components-room (a .states) (a .letters) (a .targets .now) (a .work .now) (a .out .now) fit
 
 returns : tie.Need-returns Inv-loop μ-loop

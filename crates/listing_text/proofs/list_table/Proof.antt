@@ -2,7 +2,7 @@
 use native.Mathlib.Omega.{arith}
 use borrow.Author.Needs.{needs}
 use Rattle.rules.specs.Says.{TranslateSays, rowArrays}
-use Rattle.listing_text.proofs.Promises.{success, taken, shown, listing-done, done-reach, listing-refused, refused-reach, listing-says}
+use Rattle.listing_text.proofs.Promises.{success, facts, shown, listing-done, done-reach, listing-refused, refused-reach, listing-says}
 use Rattle.listing_text.proofs.list_table.Statement.{statement}
 use Rattle.listing_text.proofs.list_table.Tie as tie
 
@@ -26,13 +26,13 @@ returns c =
     listing-says says (listing-refused says (c .before .before .before .before .if1 .taken)) (c .before .before .put-refusal .ensures)
 
 shared-slice-read-letters : tie.Need-shared-slice-read-letters
-shared-slice-read-letters c = omega (arith, taken (done (c .before)) .table)
+shared-slice-read-letters c = omega (arith, facts (done (c .before)) .table)
 
 cast-letters : tie.Need-cast-letters
-cast-letters c = omega (arith, taken (done (c .before)) .table)
+cast-letters c = omega (arith, facts (done (c .before)) .table)
 
 shared-slice-read-pairs : tie.Need-shared-slice-read-pairs
-shared-slice-read-pairs c = omega (arith, taken (done (c .before .before)) .table)
+shared-slice-read-pairs c = omega (arith, facts (done (c .before .before)) .table)
 
 put-table-requires : tie.Need-put-table-requires
 put-table-requires c κs = let s = c .before .before .before .before .before .before .before in (done-reach (done s), shown (done s))

@@ -15,7 +15,7 @@ use Rattle.tables.specs.Layouts.{TargetsLaid}
 use Rattle.tables.proofs.Refused.{targets-part}
 use Rattle.tables.proofs.Cells.{target-count}
 use Rattle.tables.proofs.Laying.{targets-written, targets-laid, is-table, laid-homes}
-use Rattle.tables.proofs.Surveying.{component-below}
+use Rattle.rules.proofs.Reaching.{component-below}
 use Rattle.tables.proofs.Promises.{components-refused, components-short, components-found, components-promised}
 use Rattle.tables.proofs.find_components.Statement.{statement}
 use Rattle.tables.proofs.find_components.Tie as tie

@@ -8,14 +8,14 @@ use lib.Seq.{getD-take}
 use Rattle.rules.specs.Judges.{paritySystem}
 use Rattle.rules.proofs.Arrays.{row-ends}
 use Rattle.components.specs.Places.{at}
-use Rattle.components.specs.Searching.{numbersIn, startsIn, Read}
+use Rattle.components.specs.Searching.{numbersIn, startsIn, LettersRead}
 use Rattle.components.proofs.Stores.{part-length}
-use Rattle.components.proofs.Loops.{read-none, read-missing, read-joined}
+use Rattle.components.proofs.Loops.{letters-none, letters-missing, read-joined}
 use Rattle.components.proofs.paths.scan.Statement.{statement}
 use Rattle.components.proofs.paths.scan.Tie as tie
 
 abbrev Inv-loop : tie.InvT-loop
-Inv-loop n m targets q from work parts starts first kept₀ a₀ kept a = Read (paritySystem n m targets) (at (numbersIn n work)) (at (startsIn n work)) q from parts a kept
+Inv-loop n m targets q from work parts starts first kept₀ a₀ kept a = LettersRead (paritySystem n m targets) (at (numbersIn n work)) (at (startsIn n work)) q from parts a kept
 
 abbrev μ-loop : tie.MeasureT-loop
 μ-loop n m targets q from work parts starts first kept₀ a₀ kept a = m - a
@@ -66,7 +66,7 @@ loop-again c =
     (λ w. let z = number-is u (r .result) (w .0 .taken) in
     let some : 0 < at (numbersIn (s u .args .n) (s u .args .work .now)) (r .result) = omega (arith, w .2 .left) in
     rw (w .4) (read-joined _ _ _ _ _ _ (t .a) (t .kept) (t .inv) (w .3 .result) (u .loop-test .taken) (rw (r .ensures) at (w .0 .taken)) (rw (r .ensures) at some) (rw (r .ensures) at (rw (← z, third (s u .args .n)) at (w .3 .ensures)))))
-    (λ w. rw (w .1) (read-missing _ _ _ _ _ _ (t .a) (t .kept) (t .inv) (rw (r .ensures) at (w .0 .left))))
+    (λ w. rw (w .1) (letters-missing _ _ _ _ _ _ (t .a) (t .kept) (t .inv) (rw (r .ensures) at (w .0 .left))))
     (c .if1 .came)
 
 returns-2 : tie.Need-returns-2 Inv-loop μ-loop
@@ -76,6 +76,6 @@ pub scan-spec : {M : Type 1} → statement M
 scan-spec =
     tie.close
     (tie.spec Inv-loop μ-loop (λ c. omega arith) (λ c. omega arith) (λ c. omega arith) (λ c. omega arith) (λ c. omega arith) (λ c. omega arith)
-    mul-first (λ c. read-none _ _ _ _ _ _ (c .before .before .before .pre .3)) (λ c. omega (arith, here c)) (λ c κs. here c)
+    mul-first (λ c. letters-none _ _ _ _ _ _ (c .before .before .before .pre .3)) (λ c. omega (arith, here c)) (λ c κs. here c)
     (λ c. omega arith) (λ c. omega arith) returns joined-requires (λ c. omega (arith, c .before .before .loop-test .taken))
     (λ c. omega (arith, c .before .before .loop-test .taken)) loop-again returns-2)

@@ -7,7 +7,7 @@ use borrow.Author.Tests.{lt-ltb, le-ltb}
 use lib.Dec.{ltb}
 use Rattle.explore.specs.Cells.{crossingKind}
 use Rattle.explore.proofs.FilingLaws.{number-most}
-use Rattle.explore.proofs.Steps.{read-missing, read-there}
+use Rattle.explore.proofs.Steps.{cell-missing, read-there}
 use Rattle.explore.proofs.rows.read_cell.Statement.{statement}
 use Rattle.explore.proofs.rows.read_cell.Tie as tie
 
@@ -17,7 +17,7 @@ there c = le-ltb _ _ (c .if1 .left)
 returns : tie.Need-returns
 returns c =
     let s = c .before .before .before .before .before .before in
-    (read-missing (s .args .code) (s .args .effect) _ _ _ _ _ _ (lt-ltb _ _ (c .if1 .taken)) (s .pre .0), λ h. s .pre .1)
+    (cell-missing (s .args .code) (s .args .effect) _ _ _ _ _ _ (lt-ltb _ _ (c .if1 .taken)) (s .pre .0), λ h. s .pre .1)
 
 cast-targets : tie.Need-cast-targets
 cast-targets c =

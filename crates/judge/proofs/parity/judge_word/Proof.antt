@@ -14,7 +14,7 @@ use Rattle.rules.specs.Runs.{recurring}
 use Rattle.rules.specs.Systems.{System}
 use Rattle.rules.proofs.Refusals.{ParityFacts, parity-facts, WordFacts, word-facts}
 use Rattle.rules.proofs.Sets.{largest-is}
-use Rattle.judge.specs.Passes.{SumsKept, Underway}
+use Rattle.judge.specs.Passes.{SumsKept, WordUnderway}
 use Rattle.judge.proofs.Pieces.{misses-within}
 use Rattle.judge.proofs.Passes.{misses-judged, underway-entry, underway-next, underway-kept, underway-state, underway-count, underway-early, underway-misses, round-earlier, round-judged, round-sums}
 use Rattle.judge.proofs.parity.judge_word.Statement.{statement}
@@ -22,7 +22,7 @@ use Rattle.judge.proofs.parity.judge_word.Tie as tie
 
 abbrev Inv-loop : tie.InvT-loop
 Inv-loop rows letters targets priorities lead looped begun₀ peaks₀ place₀ count₀ pass₀ first₀ begun peaks place count pass first =
-    Underway (paritySystem rows letters targets) 0 lead looped place₀ pass place count first begun
+    WordUnderway (paritySystem rows letters targets) 0 lead looped place₀ pass place count first begun
     × SumsKept (paritySystem rows letters targets) looped place₀ ltb (priorityAt letters priorities) pass peaks
     × (rows ≤ length peaks) × (length begun ≡ length begun₀) × (length peaks ≡ length peaks₀)
 

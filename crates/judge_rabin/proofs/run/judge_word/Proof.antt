@@ -17,7 +17,7 @@ use Rattle.rules.specs.Systems.{System}
 use Rattle.rules.specs.Tables.{tableOf}
 use Rattle.rules.proofs.Refusals.{TableFacts, table-facts, WordFacts, word-facts}
 use Rattle.tables.specs.Parts.{statesOf, systemIn}
-use Rattle.judge.specs.Passes.{MissesAfter, SumsKept, Underway}
+use Rattle.judge.specs.Passes.{MissesAfter, SumsKept, WordUnderway}
 use Rattle.judge_rabin.specs.Marks.{prohibitedMarks, requiredMarks}
 use Rattle.judge.proofs.Pieces.{misses-within}
 use Rattle.judge.proofs.Passes.{misses-judged, underway-entry, underway-next, underway-kept, underway-state, underway-count, underway-early, underway-misses, round-earlier, round-judged, round-sums}
@@ -27,7 +27,7 @@ use Rattle.judge_rabin.proofs.run.judge_word.Tie as tie
 
 abbrev Inv-loop : tie.InvT-loop
 Inv-loop table lead looped begun₀ prohibited₀ required₀ n place₀ count₀ pass₀ first₀ begun prohibited required place count pass first =
-    Underway (systemIn table) (tableOf table .start) lead looped place₀ pass place count first begun
+    WordUnderway (systemIn table) (tableOf table .start) lead looped place₀ pass place count first begun
     × SumsKept (systemIn table) looped place₀ bit (prohibitedMarks (tableOf table)) pass prohibited
     × SumsKept (systemIn table) looped place₀ bit (requiredMarks (tableOf table)) pass required
     × (statesOf table ≤ length prohibited) × (statesOf table ≤ length required)

@@ -8,7 +8,8 @@ use lib.ListN.{length, getD, length-set}
 use Rattle.rules.specs.Judges.{paritySystem}
 use Rattle.tables.specs.Parts.{Gathered}
 use Rattle.tables.specs.Layouts.{requiredIn, pairBits}
-use Rattle.tables.proofs.Surveying.{component-below, gathered-more}
+use Rattle.tables.proofs.Surveying.{gathered-more}
+use Rattle.rules.proofs.Reaching.{component-below}
 use Rattle.tables.proofs.survey.gather.Statement.{statement}
 use Rattle.tables.proofs.survey.gather.Tie as tie
 

@@ -10,7 +10,8 @@ use Rattle.rules.specs.Systems.{System}
 use Rattle.rules.proofs.Arrays.{tabulate-same}
 use Rattle.rules.proofs.Filling.{zeros-at}
 use Rattle.tables.specs.Layouts.{requiredIn, pairBits}
-use Rattle.tables.proofs.Surveying.{component-below, gathered-none, gathered-all}
+use Rattle.tables.proofs.Surveying.{gathered-none, gathered-all}
+use Rattle.rules.proofs.Reaching.{component-below}
 use Rattle.tables.proofs.survey.write_counted.Statement.{statement}
 use Rattle.tables.proofs.survey.write_counted.Tie as tie
 

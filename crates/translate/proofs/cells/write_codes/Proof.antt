@@ -9,7 +9,7 @@ use Rattle.rules.specs.Limits.{maxStates, maxLetters}
 use Rattle.rules.specs.Systems.{cell}
 use Rattle.rules.proofs.Arrays.{cell-same, cell-within}
 use Rattle.rules.proofs.Filling.{Filled, filled-none, filled-more}
-use Rattle.translate.specs.Cells.{codeIn, risingKey, CellsRoom}
+use Rattle.translate.specs.Cells.{codeIn, risingKey, CodesRoom}
 use Rattle.translate.proofs.CellCodes.{key-small, code-entered}
 use Rattle.translate.proofs.cells.write_codes.Statement.{statement}
 use Rattle.translate.proofs.cells.write_codes.Tie as tie
@@ -40,7 +40,7 @@ module _ (c : tie.After-state-at Inv-loop μ-loop) where
   abbrev q : ℕ
   q = c .state-at .result
 
-  placed : let a = start .args in CellsRoom (a .n) (a .m) (a .targets .now) (a .marks .now) (a .homes .now) (a .counted .now) × (i < a .n * a .m) × (q < a .n) × (a .n * a .m ≤ maxStates * maxLetters)
+  placed : let a = start .args in CodesRoom (a .n) (a .m) (a .targets .now) (a .marks .now) (a .homes .now) (a .counted .now) × (i < a .n * a .m) × (q < a .n) × (a .n * a .m ≤ maxStates * maxLetters)
   placed = (start .pre .0, c .before .loop-test .taken, state-below (c .before) q (c .state-at .ensures .0), few start)
 
   -- the cell has no other state and letter
