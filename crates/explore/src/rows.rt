@@ -201,8 +201,7 @@ fn read_many(
     all.known
 }
 
-// Reads all rows and gives how many there are, or that there are more than the capacity. A small index serves as long as it surely has
-// room for the rows that the next one leads to.
+// Reads all rows; gives how many there are, or a number above the capacity. A small index serves while it has room for the next row's targets.
 pub(crate) fn explore(
     task: Task,
     cells: &[u32],
