@@ -187,7 +187,8 @@ duckbullion_translation duckbullion_translate_table(const uint8_t *table, size_t
  * its line feed. So out is written on a refusal too; the four row arrays follow the rule for refusals.
  * Result: the length of the whole text in bytes, whatever of it fits. What does not fit into out is dropped, bytes of
  * out past the text are untouched, and no NUL is added. With out_length 0 the call only gives the length.
- * A listing of at most c rows and m letters has at most 10 + 26*c*m bytes, and the line of a refusal has 10.
+ * The result is at most 10 + 26*c*m for capacity c and m letters, m counted as at most 16; the line of a refusal has
+ * 10 bytes.
  */
 size_t duckbullion_list_table(const uint8_t *table, size_t table_length,
                               size_t capacity,
