@@ -1,8 +1,8 @@
--- A record's word after a move, as the list of its pairs.
---     fewer-in        what stands in a list stands in one that holds no less of it
+-- A record's code after a move, as the list of its pairs.
+--     fewer-in        what is in a list is in one that holds no less of it
 --     range-in        the numbers i, i + 1 .. hold each of them
 --     in-set          a pair is in the list of a set exactly if its bit is set
---     moved-pairs     the pairs of a set move to the front of the pairs of a word that has no gap
+--     moved-pairs     the pairs of a set move to the front of the pairs of a code that has no gap
 use mathlib.Core.Path.{_≡_, refl, sym, ap, _∙_}
 use mathlib.Core.Bool.{true}
 use mathlib.Core.List.{List}

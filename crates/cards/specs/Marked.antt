@@ -1,7 +1,7 @@
--- What the functions for marked cards ask and give.
---     pairsOf set            the pairs of a set, rising
---     HasCard bs             a card of the list says what the table's translation is
---     TranslatedAs bs o rows such a card, and the arrays begin with what it says
+-- What the functions for cards with a star ask and give.
+--     pairsOf set               list: the pairs of a set, rising
+--     HasCard bs                claim: a card of the list says what the table's translation is
+--     TranslatedAs bs o rows    claim: such a card, and the arrays begin with what it says
 use mathlib.Core.List.{List}
 use Prim.Native.Nat.{ℕ, _-_}
 use Rattle.rules.specs.Basics.{keep, tabulate}

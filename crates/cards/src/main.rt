@@ -104,6 +104,7 @@ fn run(capacity: usize) {
     put(result.rows as u64);
     end_line();
     let mut i = 0;
+    // the rows below i are printed
     while i < ROWS {
         let first = 2 * i;
         let end = first + 2;

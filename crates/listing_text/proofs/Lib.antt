@@ -1,3 +1,3 @@
--- The laws behind the writers' proofs, bottom first.
+-- The laws that the writers' proofs cite, bottom first.
 pub mod Writing
 pub mod Promises

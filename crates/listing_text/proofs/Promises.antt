@@ -2,7 +2,7 @@
 --     front-length, front-at     on success an array begins with what the translator found
 --     lines-same                 lines over arrays that agree where they are read
 --     success                    what the translator promises, where its number is 0; then:
---     facts                      the table and the arrays are facts
+--     facts                      what holds of the table and the arrays
 --     shown                      there is room in the arrays for the rows
 --     listing-done, done-reach   the listing is the head and the lines of the arrays as they are left, and is in reach
 --     listing-refused, refused-reach     on a refusal the listing is its line, and is in reach
@@ -37,18 +37,18 @@ module _ (k : ℕ) (xs o o′ : List ℕ) (e : o′ ≡ afterwards 0 k xs o) whe
   front-at p l = rw (e, append-assoc) (List·getD-append xs _ 0 p l)
 
 -- ---- lines over arrays that agree
-lines-same : (n m : ℕ) (ts ts′ ps ps′ ss ss′ rs rs′ : List ℕ) → ((p : ℕ) → p < n * m → getD ts p 0 ≡ getD ts′ p 0)
+lines-same : (n m : ℕ) (ts ts′ ps ps′ ss ss′ es es′ : List ℕ) → ((p : ℕ) → p < n * m → getD ts p 0 ≡ getD ts′ p 0)
     → ((p : ℕ) → p < n * m → getD ps p 0 ≡ getD ps′ p 0) → ((i : ℕ) → i < n → getD ss i 0 ≡ getD ss′ i 0)
-    → ((i : ℕ) → i < n → getD rs i 0 ≡ getD rs′ i 0) → lines n m ts ps ss rs ≡ lines n m ts′ ps′ ss′ rs′
+    → ((i : ℕ) → i < n → getD es i 0 ≡ getD es′ i 0) → lines n m ts ps ss es ≡ lines n m ts′ ps′ ss′ es′
 unfolding lines rowLines
-lines-same n m ts ts′ ps ps′ ss ss′ rs rs′ ft fp fs fr =
-    each-same (linesAt m ts ps ss rs) (linesAt m ts′ ps′ ss′ rs′) n (λ i l. rw (fs i l, fr i l) (each-same (before i) (after i) m (letters i l)))
+lines-same n m ts ts′ ps ps′ ss ss′ es es′ ft fp fs fr =
+    each-same (linesAt m ts ps ss es) (linesAt m ts′ ps′ ss′ es′) n (λ i l. rw (fs i l, fr i l) (each-same (before i) (after i) m (letters i l)))
   where
     before : ℕ → ℕ → List ℕ
-    before i = lineAt m ts ps i (getD ss′ i 0) (getD rs′ i 0)
+    before i = lineAt m ts ps i (getD ss′ i 0) (getD es′ i 0)
 
     after : ℕ → ℕ → List ℕ
-    after i = lineAt m ts′ ps′ i (getD ss′ i 0) (getD rs′ i 0)
+    after i = lineAt m ts′ ps′ i (getD ss′ i 0) (getD es′ i 0)
 
     letters : (i : ℕ) → i < n → (a : ℕ) → a < m → before i a ≡ after i a
     letters i l a h = let b : cell m i a < n * m = omega (arith, row-ends n m i l) in rw (ft (cell m i a) b, fp (cell m i a) b)

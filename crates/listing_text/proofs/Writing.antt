@@ -1,8 +1,8 @@
 -- Texts that are written one after the other.
 --     wrote-none                 nothing
---     wrote-both                 two texts, one behind the other
+--     wrote-both                 two texts, one after the other
 --     wrote-length               the array stays as long as it was
---     reach-first, reach-then    where the whole is in reach, so is its first part, and from behind it the second
+--     reach-first, reach-then    where the whole is in reach, so is its first part, and from its end on the second
 --     wrote-next, reach-next     of texts that are written one by one, the next one
 --     wrote-next-byte, reach-next-byte     of bytes that are written one by one, the next one
 use mathlib.Core.Path.{_≡_, refl, sym, ap, _∙_}
@@ -16,7 +16,7 @@ use Rattle.rules.specs.Texts.{each}
 use Rattle.rules.proofs.Texts.{each-split, each-more, put-append}
 use Rattle.listing_text.specs.Writing.{InReach, Wrote}
 
--- ---- one text behind the other
+-- ---- one text after the other
 pub wrote-none : (at : ℕ) (o : List ℕ) → Wrote at [] o o at
 wrote-none at o = record { contents = refl; next = omega arith }
 

@@ -52,6 +52,7 @@ fn put_row(
 {
     let mut next = at;
     let mut a = 0;
+    // the lines of the letters below a are written
     while a < m {
         let cell = row * m + a;
         next = put_line(
@@ -85,6 +86,7 @@ fn put_rows(
 {
     let mut next = at;
     let mut i = 0;
+    // the lines of the rows below i are written
     while i < n {
         next = put_row(out, next, m, i, sources[i], records[i], targets, priorities);
         i += 1;

@@ -1,4 +1,4 @@
-// Writers of text. Each writes its text into `out` from place `at` on, drops what falls past the end, and gives the place behind the
+// Writers of text. Each writes its text into `out` from place `at` on, drops what falls past the end, and gives the place after the
 // text, whether it fitted or not; so writers follow one another, and over an empty array they only count.
 ghost use mathlib.Core.List.{[], _∷_};
 ghost use Rattle.rules.specs.Listings.{field, optional};
@@ -31,6 +31,7 @@ pub(crate) fn put_bytes(out: &mut [u8], at: usize, bytes: &[u8]) -> usize
 {
     let mut next = at;
     let mut i = 0;
+    // the first i bytes are written
     while i < bytes.len() {
         next = put_byte(out, next, bytes[i]);
         i += 1;

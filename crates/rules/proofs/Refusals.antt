@@ -30,7 +30,7 @@ use Rattle.rules.specs.Says.{areShort, arraysFault, translateFault}
 use Rattle.rules.proofs.Bools.{or-none, and-parts}
 
 -- ---- chains of refusals
--- no refusal: this one is not met, nor any behind it
+-- no refusal: this one is not met, nor any after it
 pub first-none : (b : Bool) (n r : ℕ) → firstOf (when b (suc n)) r ≡ 0 → (b ≡ false) × (r ≡ 0)
 first-none true n r h = absurd (omega arith)
 first-none false n r h = (refl, h)

@@ -1,7 +1,7 @@
 -- Texts: numbers in decimal, texts one after the other, and writing them into an array.
 --     numeral-one, numeral-more     one digit; the digits before the last, then the last
 --     numeral-length                a number below a power of ten has no more digits than the power says
---     each-split, each-more         some texts and those behind them; one text more
+--     each-split, each-more         some texts and those after them; one text more
 --     each-same                     texts that are equal one by one
 --     each-length                   texts of a bounded length
 --     put-append                    a text in two parts is written part by part

@@ -1,21 +1,21 @@
--- The listing of a translation: the text that the listing program prints (RULES, "Listing"), byte for byte.
---     field n end                  a number and the byte that ends its field
---     optional none n end          the same, a dash for the number where there is none
---     line i q r a t p             the line of row i with source state q and record number r, and of letter a with target t and priority p;
---                                  an empty record, and target and priority of a missing transition, are dashes
---     lineAt m ts ps i q r a       the line of row i and letter a, its target and its priority read from ts and ps
---     rowLines m ts ps i q r       the lines of row i, m letters rising
---     linesAt m ts ps ss rs i      the lines of row i, its source state and its record number read from ss and rs
---     lines n m ts ps ss rs        the lines of rows 0 to n - 1
---     head n m k                   the first line: rows, letters and pairs
---     refusalLine f                    the line of the refusal f: the word and the number
---     tableListing bs c            the head and the lines of the table that the bytes say, translated with the capacity c
---     listing bs c a b d e         the whole text, where the four lent arrays have the lengths a, b, d and e
---     rowsListed bs c a b d e      the rows listed, 0 on a refusal
---     listingBound c m             the most bytes of a listing with the capacity c and m letters: 10 for the head, 26 for each line; no more letters are
---                                  listed than a table may have
---     ListingSays bs c (rowArrays ts .. o′ listing) (rowArrays ts′ o r into) o: what the translator leaves in its four arrays, the text in o as far as it fits, and r,
---                                  the length of the whole text, which the bound holds
+-- The listing of a translation: the text that the listing program prints (RULES, "Listing"), byte for byte. A text is a list of bytes.
+--     field n end                     text: a number and the byte that ends its field
+--     optional none n end             text: the same, a dash for the number where there is none
+--     line i q r a t p                text: the line of row i with source state q and record number r, and of letter a with target t and
+--                                     priority p; an empty record, and target and priority of a missing transition, are dashes
+--     lineAt m ts ps i q r a          text: the line of row i and letter a, its target and its priority read from ts and ps
+--     rowLines m ts ps i q r          text: the lines of row i, m letters rising
+--     linesAt m ts ps ss es i         text: the lines of row i, its source state and its record number read from ss and es
+--     lines n m ts ps ss es           text: the lines of rows 0 to n - 1
+--     head n m k                      text: the first line: rows, letters and pairs
+--     refusalLine f                   text: the line of the refusal f
+--     tableListing bs c               text: the head and the lines of the table that the bytes say, translated with the capacity c
+--     listing bs c a b d e            text: the whole, where the four lent arrays have the lengths a, b, d and e
+--     rowsListed bs c a b d e         number: the rows listed, 0 on a refusal
+--     listingBound c m                number: the most bytes of a listing with the capacity c and m letters, 10 for the head and 26 for each line;
+--                                     no more letters are listed than a table may have
+--     ListingSays bs c x x′ o o′ r    claim: listing leaves in the four arrays what the translator leaves, x′, and in o the text as far as it
+--                                     fits; r is the length of the whole text, which the bound holds
 use mathlib.Core.Path.{_≡_}
 use mathlib.Core.Bool.{Bool}
 use mathlib.Core.List.{List, [], _∷_, _++_}
@@ -49,10 +49,10 @@ unfoldable pub rowLines : ℕ → List ℕ → List ℕ → ℕ → ℕ → ℕ 
 rowLines m ts ps i q r = each m 0 (lineAt m ts ps i q r)
 
 abbrev pub linesAt : ℕ → List ℕ → List ℕ → List ℕ → List ℕ → ℕ → List ℕ
-linesAt m ts ps ss rs i = rowLines m ts ps i (getD ss i 0) (getD rs i 0)
+linesAt m ts ps ss es i = rowLines m ts ps i (getD ss i 0) (getD es i 0)
 
 unfoldable pub lines : ℕ → ℕ → List ℕ → List ℕ → List ℕ → List ℕ → List ℕ
-lines n m ts ps ss rs = each n 0 (linesAt m ts ps ss rs)
+lines n m ts ps ss es = each n 0 (linesAt m ts ps ss es)
 
 unfoldable pub head : ℕ → ℕ → ℕ → List ℕ
 head n m k = field n blank ++ (field m blank ++ field k lineFeed)

@@ -1,4 +1,4 @@
--- `listing_text::lines::put_line` meets its contract: six fields, one behind the other.
+-- `listing_text::lines::put_line` meets its contract: six fields, one after the other.
 use native.Mathlib.Omega.{arith}
 use lib.ListN.{length-append}
 use borrow.Author.Needs.{needs}
@@ -7,7 +7,7 @@ use Rattle.listing_text.proofs.Writing.{wrote-both}
 use Rattle.listing_text.proofs.lines.put_line.Statement.{statement}
 use Rattle.listing_text.proofs.lines.put_line.Tie as tie
 
--- the places behind each field, and where the line began
+-- the places after each field, and where the line began
 abbrev target-written : tie.After-put-optional3 → tie.After-put-optional2
 target-written c = c .before .before .before .before
 

@@ -7,7 +7,7 @@ use Rattle.listing_text.proofs.Writing.{wrote-both}
 use Rattle.listing_text.proofs.lines.put_table.Statement.{statement}
 use Rattle.listing_text.proofs.lines.put_table.Tie as tie
 
--- the places behind each field of the head, and where the text began
+-- the places after each field of the head, and where the text began
 abbrev pairs-written : tie.After-put-rows → tie.After-put-field3
 pairs-written c = c .before .before .before .before
 
