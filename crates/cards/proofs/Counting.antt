@@ -9,8 +9,8 @@ use lib.ListN.{length, getD}
 use Rattle.rules.specs.Basics.{keep, tabulate}
 use Rattle.rules.specs.Tables.{tableOf, tableFault, rising}
 use Rattle.records.specs.Packed.{limit, isMarked}
-use Rattle.tables.specs.Layouts.{LaySays, SurveySays}
-use Rattle.tables.proofs.Laying.{is-table}
+use Rattle.survey.specs.Layouts.{LaySays, SurveySays}
+use Rattle.survey.proofs.Laying.{is-table}
 use Rattle.translate.specs.Cells.{HasCells}
 use Rattle.translate.proofs.CellCodes.{lay-fault, many-cells, laid-table, surveyed, rising-marked}
 

@@ -1,5 +1,5 @@
 -- A search from one state on, for any system and whatever the arrays are.
---     reached-start, reached-old, reached-new, reached-row    the first state; one letter more, to a state that is met or not; all letters of a state
+--     reached-start, reached-old, reached-new, reached-letters    the first state; one letter more, to a state that is met or not; all letters of a state
 --     reached-path     a path leads to every state that is met, with fewer letters than its number
 --     untouched-none, untouched-then, untouched-start    entries past the states that are met: nothing is written, one writing after another, the
 --                      numbers are cleared and the first state is met
@@ -63,8 +63,8 @@ module _ (s : System) (from c k a : ℕ) (number queue parent letter : ℕ → �
         part = λ b l t. same-or b a (λ e. rw e (h (rw e at t))) (λ d. x .part b (omega arith) t);
       }
 
-  pub reached-row : s .letters ≤ a → Queued s from c (k + 1) 0 number queue parent letter
-  reached-row h =
+  pub reached-letters : s .letters ≤ a → Queued s from c (k + 1) 0 number queue parent letter
+  reached-letters h =
       record {
         places = x .places;
         low = x .low;

@@ -31,9 +31,9 @@ fn read_piece(table: &[u8], piece: &[u8], from: usize) -> Reading
 {
     let n = cells::states_of(table);
     let mut place = from;
-    let mut met = 0;
+    let mut union = 0;
     let mut i = 0;
-    // the first i letters lead from state `from` to state `place`, and met is the union of the masks on the way
+    // the first i letters lead from state `from` to state `place`, and union is the union of the masks on the way
     while i < piece.len() {
         let letter = piece[i] as usize;
         let target = cells::target_of(table, place, letter);
@@ -45,12 +45,12 @@ fn read_piece(table: &[u8], piece: &[u8], from: usize) -> Reading
                 required: 0,
             };
         }
-        met = met | cells::marks_at(table, place, letter);
+        union = union | cells::marks_at(table, place, letter);
         place = target;
         i += 1;
     }
-    let prohibited = (met % 256) as u8;
-    let required = (met / 256) as u8;
+    let prohibited = (union % 256) as u8;
+    let required = (union / 256) as u8;
     Reading {
         place,
         read: i,
@@ -113,8 +113,8 @@ pub(crate) fn judge_word(
     }
     let from = first as usize - 1;
     let barred = union_of(&prohibited[from..pass]);
-    let met = union_of(&required[from..pass]);
-    if met & barred == met {
+    let asked = union_of(&required[from..pass]);
+    if asked & barred == asked {
         return Judged::Rejects;
     }
     Judged::Accepts

@@ -2,6 +2,3 @@
 pub mod Checks
 pub mod Refused
 pub mod Cells
-pub mod Laying
-pub mod Promises
-pub mod Surveying

@@ -1,3 +1,2 @@
--- What the crate's own contracts cite beyond the rules.
-pub mod Layouts
+-- What the crate's contracts cite beyond the rules.
 pub mod Parts

@@ -29,10 +29,11 @@ use Rattle.rules.proofs.Bools.{by}
 use Rattle.rules.proofs.Refusals.{table-facts}
 use Rattle.records.specs.Packed.{limit, isMarked}
 use Rattle.records.proofs.Packing.{kept-below, rising-below}
-use Rattle.tables.specs.Layouts.{wideTarget, TargetsLaid, MarksLaid, IsTable, countedPairs, countedIn, layFault, LaySays, surveyFits, SurveySays}
-use Rattle.tables.specs.Parts.{WellFormed, Listed}
-use Rattle.tables.proofs.Laying.{targets-laid, marks-laid, laid-homes, laid-counted}
-use Rattle.tables.proofs.Surveying.{home-inside, listed}
+use Rattle.survey.specs.Layouts.{wideTarget, TargetsLaid, MarksLaid, IsTable, countedPairs, countedIn, layFault, LaySays, surveyFits, SurveySays}
+use Rattle.tables.specs.Parts.{WellFormed}
+use Rattle.survey.specs.Parts.{Listed}
+use Rattle.survey.proofs.Laying.{targets-laid, marks-laid, laid-homes, laid-counted}
+use Rattle.survey.proofs.Surveying.{home-inside, listed}
 use Rattle.explore.specs.Cells.{span}
 use Rattle.translate.specs.Cells.{cutMarks, entryKey, cellCode, codeOf, codeIn, risingKey, CodesRoom, Written, TableCodes, HasCells}
 

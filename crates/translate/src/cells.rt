@@ -8,7 +8,7 @@ ghost use mathlib.Core.Path.{_≡_};
 ghost use Prim.Native.Nat.{ℕ, _+_, _*_, _<_, _≤_};
 ghost use lib.ListN.{length, getD};
 ghost use Rattle.rules.specs.Limits.{maxStates, maxLetters};
-ghost use Rattle.tables.specs.Parts.{Listed};
+ghost use Rattle.survey.specs.Parts.{Listed};
 ghost use Rattle.explore.specs.Cells.{crossingKind};
 ghost use Rattle.translate.specs.Cells.{codeOf, codeIn, risingKey, CodesRoom, Written};
 

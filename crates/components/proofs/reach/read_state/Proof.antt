@@ -7,7 +7,7 @@ use Rattle.rules.specs.Judges.{paritySystem}
 use Rattle.rules.specs.Limits.{noRow}
 use Rattle.rules.proofs.Arrays.{row-ends}
 use Rattle.components.specs.Places.{at}
-use Rattle.components.proofs.Reaches.{Reaching, reaching-none, reaching-more, reached-own, reached-row}
+use Rattle.components.proofs.Reaches.{Reaching, reaching-none, reaching-more, reached-own, reached-letters}
 use Rattle.components.proofs.reach.read_state.Statement.{statement}
 use Rattle.components.proofs.reach.read_state.Tie as tie
 
@@ -78,7 +78,7 @@ loop-again c =
 returns : tie.Need-returns Inv-loop μ-loop
 returns c =
     let t = c .before .loop .inv in
-    record { reached = reached-row _ _ _ _ _ _ _ _ _ (t .3 .reached) (c .loop-test .left); more = t .1; untouched = t .3 .untouched }
+    record { reached = reached-letters _ _ _ _ _ _ _ _ _ (t .3 .reached) (c .loop-test .left); more = t .1; untouched = t .3 .untouched }
 
 pub read-state-spec : {M : Type 1} → statement M
 read-state-spec =

@@ -22,13 +22,13 @@ use Rattle.judge_rabin.proofs.run.read_piece.Statement.{statement}
 use Rattle.judge_rabin.proofs.run.read_piece.Tie as tie
 
 abbrev Inv-loop : tie.InvT-loop
-Inv-loop table piece from n place₀ met₀ i₀ place met i =
-    (i ≤ length piece) × Path (systemIn table) from (take i piece) place × (met < 2 ^ 16)
-    × SumsUp bit (prohibitedMarks (tableOf table)) (passFrom (systemIn table) from (take i piece)) (met % 256)
-    × SumsUp bit (requiredMarks (tableOf table)) (passFrom (systemIn table) from (take i piece)) (met / 256)
+Inv-loop table piece from n place₀ union₀ i₀ place union i =
+    (i ≤ length piece) × Path (systemIn table) from (take i piece) place × (union < 2 ^ 16)
+    × SumsUp bit (prohibitedMarks (tableOf table)) (passFrom (systemIn table) from (take i piece)) (union % 256)
+    × SumsUp bit (requiredMarks (tableOf table)) (passFrom (systemIn table) from (take i piece)) (union / 256)
 
 abbrev μ-loop : tie.MeasureT-loop
-μ-loop table piece from n place₀ met₀ i₀ place met i = length piece - i
+μ-loop table piece from n place₀ union₀ i₀ place union i = length piece - i
 
 -- in a turn: a letter from a state
 module _ (c : tie.In-loop Inv-loop μ-loop) where
@@ -78,7 +78,7 @@ loop-again : tie.Need-loop-again Inv-loop μ-loop
 loop-again c =
     let x = c .before .before .before .before in
     let inv = c .before .before .before .before .before .loop .inv in
-    let w = c .before .before .before .before .before .loop .met in
+    let w = c .before .before .before .before .before .loop .union in
     let v = c .marks-at .result in
     let marks = c .marks-at .ensures in
     let n = c .before .before .before .before .before .before .states-of .ensures in (

@@ -9,9 +9,10 @@ use Rattle.rules.specs.Limits.{maxStates, maxLetters}
 use Rattle.rules.specs.Systems.{componentOf}
 use Rattle.rules.specs.Tables.{Table, tableOf, tableFault, systemOf}
 use Rattle.rules.proofs.Refusals.{table-facts}
-use Rattle.tables.specs.Layouts.{IsTable, countedPairs}
-use Rattle.tables.specs.Parts.{WellFormed, Listed}
-use Rattle.tables.proofs.Laying.{is-table}
+use Rattle.survey.specs.Layouts.{IsTable, countedPairs}
+use Rattle.tables.specs.Parts.{WellFormed}
+use Rattle.survey.specs.Parts.{Listed}
+use Rattle.survey.proofs.Laying.{is-table}
 use Rattle.translate.proofs.CellCodes.{lay-fault, LaidTable, laid-table, laid-fit, surveyed, first-key, cells-room, codes-written}
 use Rattle.translate.proofs.encode.encode_in.Statement.{statement}
 use Rattle.translate.proofs.encode.encode_in.Tie as tie

@@ -1,0 +1,3 @@
+-- What the crate's contracts cite beyond the rules.
+pub mod Layouts
+pub mod Parts
