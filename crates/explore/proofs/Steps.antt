@@ -3,7 +3,7 @@
 --     key-row                             the row of a number is the key of that number
 --     step-here                           the step of a cell, by its code and the effect of its marks
 --     row-fits, cell-fits                 the cells of a key that fits
---     code-fits, step-fits, key-there    a code and a step lead to keys that fit; the code of a transition gives a step that is there
+--     code-fits, step-fits, key-there     a code and a step lead to keys that fit; the code of a transition gives a step that is there
 --     cell-missing, read-there            a cell has been read whose transition is missing, or is there and its key is filed
 --     step-count, step-most, step-rest, step-rows, step-front, step-known    how many rows there are then, at most one more, what stays past them,
 --                                         which they are, that those known before stay, and what is known

@@ -4,7 +4,7 @@
 --                                       of the arrays, for k keys, a targets and b priorities, is too short
 --     Fits m cells v                    claim: the cells of the key's state are among the cells
 --     Closed t cells                    claim: the letters are in range, and the start and every code lead to keys that fit
---     RowRoom m c ts ps keys               claim: the capacity c is in range, and the lent arrays have room for as many rows
+--     RowRoom m c ts ps keys            claim: the capacity c is in range, and the lent arrays have room for as many rows
 --     LinkRoom c k links                claim: there is a link for each place below both c and k
 --     Lent, lent keys ts ps             record of three arrays, the keys, targets and priorities of rows: o before, o′ after
 --     StepRead x c n p o o′ r           claim: cell p, whose step is x, is read, and r keys are known, where n were; there is no plan here

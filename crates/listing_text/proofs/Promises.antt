@@ -5,7 +5,7 @@
 --     facts                      what holds of the table and the arrays
 --     shown                      there is room in the arrays for the rows
 --     listing-done, done-reach   the listing is the head and the lines of the arrays as they are left, and is in reach
---     listing-refused, refused-reach     on a refusal the listing is its line, and is in reach
+--     listing-refused, refused-reach    on a refusal the listing is its line, and is in reach
 --     listing-says               the promise, where the listing is the text that was written
 use mathlib.Core.Path.{_≡_, sym, ap, _∙_}
 use mathlib.Core.List.{List, _++_, append-assoc}

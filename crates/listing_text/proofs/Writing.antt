@@ -4,7 +4,7 @@
 --     wrote-length               the array stays as long as it was
 --     reach-first, reach-then    where the whole is in reach, so is its first part, and from its end on the second
 --     wrote-next, reach-next     of texts that are written one by one, the next one
---     wrote-next-byte, reach-next-byte     of bytes that are written one by one, the next one
+--     wrote-next-byte, reach-next-byte    of bytes that are written one by one, the next one
 use mathlib.Core.Path.{_≡_, refl, sym, ap, _∙_}
 use mathlib.Core.List.{List, [], _∷_, _++_}
 use Prim.Native.Nat.{ℕ, _+_, _-_, _<_}

@@ -5,7 +5,7 @@
 --     after x o                      what follows x in o
 --     after-moved                    behind a pair that is not prohibited a move only drops the prohibited ones
 --     drop-moved                     a tail in which nothing is prohibited stays as it is
---     priority-none, priority-last, priority-is     the last pair with either mark decides the priority
+--     priority-none, priority-last, priority-is    the last pair with either mark decides the priority
 --     once-length                    a list of different numbers from 1 to k has at most k
 --     with-bounds                    one pair more cannot lower the priority found, nor lift it past its own position
 --     priority-bound                 a priority is at most 2p + 1, p the length of the record

@@ -1,6 +1,6 @@
 -- How long a listing is.
---     field-length, optional-length     the field of a number with few digits
---     line-length, head-length, refused-length     a line, the head and the line of a refusal, where every number is within its range
+--     field-length, optional-length    the field of a number with few digits
+--     line-length, head-length, refused-length    a line, the head and the line of a refusal, where every number is within its range
 --     step-priority-bound     a priority is at most 2k + 1, k the table's pairs
 --     listing-bound           a listing is at most as long as its bound says, for all bytes, capacities and lengths of the arrays
 --     listing-whole           in an array with room for the bound the listing is written whole

@@ -1,5 +1,5 @@
 -- What follows where nothing is refused.
---     first-none, first-zero, when-none     a chain of refusals that gives none
+--     first-none, first-zero, when-none    a chain of refusals that gives none
 --     in-range         a size from 1 to the most, and what is tested after it
 --     size-facts       what holds of sizes within their ranges
 --     table-facts      what holds of a table that is well formed
@@ -7,9 +7,9 @@
 --     parity-facts     what holds of a parity table with nothing to refuse
 --     parity-none      a parity table with nothing to refuse
 --     array-facts      what holds of a capacity in range and of lent arrays that are long enough, and arrays-enough the other way
---     translation-facts     what holds of a table and of lent arrays that are translated
---     translated-none       a table that is translated, with room in the arrays for any letters: nothing to refuse
---     fault-below, translation-below     the refusals of a table are those up to the marks', of a translation those up to full
+--     translation-facts    what holds of a table and of lent arrays that are translated
+--     translated-none    a table that is translated, with room in the arrays for any letters: nothing to refuse
+--     fault-below, translation-below    the refusals of a table are those up to the marks', of a translation those up to full
 use mathlib.Core.Path.{_≡_, refl}
 use mathlib.Core.Bool.{Bool, true, false, not, _&&_, _||_}
 use mathlib.Core.List.{List}

@@ -1,7 +1,7 @@
 -- What a row does by a letter, case by case, and when two rows are the same.
 --     step-missing, step-inside, step-crossing    the three cases, whole
---     step-there, step-present, step-source    a step is there exactly if the transition is, and leads where it leads
---     plan-same    where sameness of memories is equality, sameness of rows is
+--     step-there, step-present, step-source       a step is there exactly if the transition is, and leads where it leads
+--     plan-same                                   where sameness of memories is equality, sameness of rows is
 use mathlib.Core.Path.{_≡_, refl, ap, ap₂}
 use mathlib.Core.Bool.{true, false}
 use Prim.Native.Nat.{ℕ, _≤_, _<_}

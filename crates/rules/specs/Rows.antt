@@ -22,7 +22,7 @@
 --                                   more than c, which is full
 --     targetNumber g none rs r a    number: that of the row to which r leads by a, `none` where the transition is missing
 --     allTargets g none rs, allPriorities g rs    lists: those of each row, joined
---     CellsRead g none rs p ts ps        claim: the cells below p are read: ts has the number of the row to which each leads among rs, `none` where
+--     CellsRead g none rs p ts ps   claim: the cells below p are read: ts has the number of the row to which each leads among rs, `none` where
 --                                   the transition is missing, and ps its priority
 --     Row                           record: a source state with a memory (a state of the parity automaton)
 --     row q m                       the row of state q and memory m

@@ -1,7 +1,7 @@
 -- A table laid out in two arrays, one entry for each cell, and what is surveyed of such arrays. A prime marks an array's contents at exit.
 --     wideTarget x                  number: a target as 16 bits, 65,535 where the transition is missing
---     targetEntry t c                  number: the target of cell c as 16 bits
---     maskEntry t c                    number: its marks as one mask, the required byte above the prohibited byte
+--     targetEntry t c               number: the target of cell c as 16 bits
+--     maskEntry t c                 number: its marks as one mask, the required byte above the prohibited byte
 --     targetCells t, markCells t    lists: the same for each cell
 --     TargetsLaid t ts              claim: the array holds the targets of t, by state and letter
 --     MarksLaid t ms                claim: the array holds the masks of t, by state and letter
