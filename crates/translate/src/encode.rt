@@ -37,8 +37,7 @@ fn refused_with(number: u8) -> Encoded
     }
 }
 
-// Writes the codes of a table's cells, with lent arrays for their targets and their marks. `short` says that the translation will be refused
-// in any case: that is found before the components are.
+// Writes the codes of a table's cells, with lent arrays for targets and marks. `short` says that 7 is due: then no component is looked for.
 fn encode_in(
     table: &[u8],
     short: bool,

@@ -103,8 +103,7 @@ fn translate_in(
     Translation { number, rows }
 }
 
-// The parity table of a Rabin table, in the lent arrays. A table of few bytes has few cells, and clearing arrays for all that a table can have
-// would take longer than the rest.
+// The parity table of a Rabin table, in the lent arrays. Of few bytes it has few cells: clearing arrays for the most would take the longest.
 pub fn translate_table(
     table: &[u8],
     capacity: usize,
