@@ -1,5 +1,5 @@
 // The public calls on tables and words for C and Rust: a slice goes out as a pointer and a length, an answer as two numbers.
-// It rests on `components`, `tables`, `translate`, `judge`, `judge_rabin` and `listing_text`, passes each call on as it is, and only turns an answer
+// It rests on `components`, `tables`, `survey`, `translate`, `judge`, `judge_rabin` and `listing_text`, passes each call on as it is, and only turns an answer
 // into numbers and a part into its place. Each call keeps the promise of the one that it passes on to, for all bytes, arrays, sizes and places.
 use components::find_reached;
 use components::path_to;

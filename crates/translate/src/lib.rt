@@ -1,5 +1,5 @@
 // Translates a Rabin table into a parity table, by index appearance records.
-// It rests on `tables`, which checks a table, lays it out and says what counts where, and on `explore`, which finds the rows. `translate_table` keeps
+// It rests on `survey`, which lays a table out and says what counts where, and on `explore`, which finds the rows. `translate_table` keeps
 // the promise `TranslateSays` of the rules, with it demand 3 of the arrays as they are left, `TranslationAgrees`, and what the rows mean, `TranslationMeans`.
 use crate::encode::FEW_BYTES;
 use crate::encode::FEW_CELLS;
