@@ -1,29 +1,26 @@
 -- Demand 3 for Rabin tables, and for the arrays that the translator leaves.
---     demands          every table that is translated agrees with its translation, whatever the entries past the rows are
+--     table-agrees     every table that is translated agrees with its translation, whatever the entries past the rows are
 --     success-front    what the translator found is the front of an array
 --     says-agrees      a translator that keeps its promise leaves arrays that agree with the table
 --     says-judged      and are judged as the rows alone are
 use mathlib.Core.Path.{_≡_, refl, sym, _∙_}
-use mathlib.Core.Bool.{false, not, _&&_}
+use mathlib.Core.Bool.{false}
 use mathlib.Core.List.{List, [], _++_, append-assoc, append-nil}
 use Prim.Native.Nat.{ℕ, _-_, _*_, _≤_}
-use lib.Dec.{eqb, leb}
 use lib.ListN.{length, take, drop, replicate}
 use lib.Seq.{take-at}
-use borrow.Author.Tests.{eqb-true, leb-true, not-true}
 use Rattle.rules.specs.Limits.{maxRows}
 use Rattle.rules.specs.Tables.{tableOf, tableFault, systemOf, recordKeeper, IsOrdering}
 use Rattle.rules.specs.Judges.{satisfies, parityJudge}
-use Rattle.rules.specs.Claims.{tableRows, rowTargets, rowPriorities, sourceStates, exceeds, Agrees, Demands}
+use Rattle.rules.specs.Claims.{tableRows, rowTargets, rowPriorities, sourceStates, exceeds, Agrees}
 use Rattle.rules.specs.Says.{afterwards, TranslateSays, TranslationAgrees, rowArrays}
-use Rattle.rules.proofs.Bools.{and-parts}
 use Rattle.rules.proofs.Refusals.{table-facts, translation-facts}
 use Rattle.rules.proofs.Demand3.{demand-3}
 use Rattle.rules.proofs.RabinTables.{rabin-lawful}
 
-agrees : (bs : List ℕ) (c : ℕ) → tableFault bs ≡ 0 → c ≤ maxRows → exceeds bs c ≡ false → (ts ps ss : List ℕ)
+pub table-agrees : (bs : List ℕ) (c : ℕ) → tableFault bs ≡ 0 → c ≤ maxRows → exceeds bs c ≡ false → (ts ps ss : List ℕ)
     → Agrees bs (length (tableRows bs c)) (rowTargets bs c ++ ts) (rowPriorities bs c ++ ps) (sourceStates bs c ++ ss)
-agrees bs c fault within fits ts ps ss =
+table-agrees bs c fault within fits ts ps ss =
     let t = tableOf bs in
     let ok = table-facts bs fault in
     let g = demand-3 (systemOf t) (t .start) (recordKeeper t) (satisfies t) (IsOrdering t) (rabin-lawful t) (ok .start-state) c fits within ts ps ss (ok .sizes .some-letters) (ok .sizes .most-letters) in
@@ -32,14 +29,6 @@ agrees bs c fault within fits ts ps ss =
       judges = λ lead l. g .judges lead l ∙ rw fault;
       walks = λ xs h. let e = g .walks xs h in (λ p. sym e ∙ p, λ p. e ∙ p);
     }
-
-pub demands : Demands
-demands bs c h ts ps ss =
-    let f = exceeds bs c in
-    let r = and-parts (eqb (tableFault bs) 0) (leb 1 c && (leb c maxRows && not f)) h in
-    let u = and-parts (leb 1 c) (leb c maxRows && not f) (r .1) in
-    let v = and-parts (leb c maxRows) (not f) (u .1) in
-    agrees bs c (eqb-true (tableFault bs) 0 (r .0)) (leb-true c maxRows (v .0)) (not-true f (v .1)) ts ps ss
 
 -- ---- the arrays that the translator leaves
 -- the entries past the rows in an array that holds xs after success
@@ -59,7 +48,7 @@ pub says-agrees : (bs : List ℕ) (c : ℕ) (ts ts′ ps ps′ ss ss′ es es′
 says-agrees bs c ts ts′ ps ps′ ss ss′ es es′ number count says z =
     let k = c * tableOf bs .letters in
     let ok = translation-facts bs c (length ts) (length ps) (length ss) (length es) (sym (says .refusal) ∙ z) in
-    let all = agrees bs c (ok .fault) (ok .arrays .most-rows) (ok .not-full) (behind k (rowTargets bs c) ts) (behind k (rowPriorities bs c) ps) (behind c (sourceStates bs c) ss) in
+    let all = table-agrees bs c (ok .fault) (ok .arrays .most-rows) (ok .not-full) (behind k (rowTargets bs c) ts) (behind k (rowPriorities bs c) ps) (behind c (sourceStates bs c) ss) in
     let at-ts = after-success number k (rowTargets bs c) ts ts′ z (says .target-array) in
     let at-ps = after-success number k (rowPriorities bs c) ps ps′ z (says .priority-array) in
     let at-ss = after-success number c (sourceStates bs c) ss ss′ z (says .source-array) in
@@ -71,5 +60,5 @@ pub says-judged : (bs : List ℕ) (c : ℕ) (ts ts′ ps ps′ ss ss′ es es′
     → parityJudge count (tableOf bs .letters) ts′ ps′ lead l ≡ parityJudge (length (tableRows bs c)) (tableOf bs .letters) (rowTargets bs c) (rowPriorities bs c) lead l
 says-judged bs c ts ts′ ps ps′ ss ss′ es es′ number count says z lead l =
     let ok = translation-facts bs c (length ts) (length ps) (length ss) (length es) (sym (says .refusal) ∙ z) in
-    let alone = agrees bs c (ok .fault) (ok .arrays .most-rows) (ok .not-full) [] [] [] .judges lead l in
+    let alone = table-agrees bs c (ok .fault) (ok .arrays .most-rows) (ok .not-full) [] [] [] .judges lead l in
     says-agrees bs c ts ts′ ps ps′ ss ss′ es es′ number count says z .judges lead l ∙ sym (rw (append-nil (rowTargets bs c), append-nil (rowPriorities bs c)) at alone)

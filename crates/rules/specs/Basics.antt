@@ -17,11 +17,10 @@
 --     isEven n           test: n is even
 --     bit i v            test: bit i of v is set, counted from 0
 --     asBits k b         number: its bits are the numbers below k that pass the test b
---     SameBelow n r t    claim: the relations r and t are the same on the numbers below n
 use mathlib.Core.Path.{_≡_}
 use mathlib.Core.Bool.{Bool, true, false, _||_}
 use mathlib.Core.List.{List, [], _∷_, _++_}
-use Prim.Native.Nat.{ℕ, zero, suc, _+_, _/_, _%_, _^_, max, _<_}
+use Prim.Native.Nat.{ℕ, zero, suc, _+_, _/_, _%_, _^_, max}
 use lib.Dec.{eqb}
 
 abbrev pub pick : {A : Type 0} → Bool → A → A → A
@@ -91,6 +90,3 @@ bit i v = eqb (v / 2 ^ i % 2) 1
 abbrev pub asBits : ℕ → (ℕ → Bool) → ℕ
 asBits zero b = 0
 asBits (suc k) b = when (b k) (2 ^ k) + asBits k b
-
-abbrev pub SameBelow : ℕ → (ℕ → ℕ → Bool) → (ℕ → ℕ → Bool) → Type 0
-SameBelow n r t = (p : ℕ) → p < n → (q : ℕ) → q < n → r p q ≡ t p q

@@ -8,11 +8,10 @@
 --     translated bs c         test: the table is well formed, the capacity is in range, and the rows do not exceed it
 --     Agrees bs n ts ps ss    claim: n rows with these targets, priorities and source states agree with the Rabin table: on words of any
 --                             length, in the answers of the judges, refusals included, and on closed walks of any length
---     Demands                 claim: every table that is translated agrees with its translation, whatever the entries past the rows are
 use mathlib.Core.Path.{_≡_}
 use mathlib.Core.Logic.{_↔_}
 use mathlib.Core.Bool.{Bool, true, false, _&&_, not}
-use mathlib.Core.List.{List, _++_, map}
+use mathlib.Core.List.{List, map}
 use Prim.Native.Nat.{ℕ, _<_}
 use lib.Dec.{eqb, leb}
 use lib.ListN.{length}
@@ -50,6 +49,3 @@ pub record Agrees (bs : List ℕ) (n : ℕ) (ts ps ss : List ℕ) : Type 0 where
   pub judges : (lead l : List ℕ) → parityJudge n (tableOf bs .letters) ts ps lead l ≡ rabinJudge bs lead l
   pub walks : (xs : List Taken) → isClosedWalk (paritySystem n (tableOf bs .letters) ts) xs ≡ true
       → (parityGood (tableOf bs .letters) ps xs ≡ true) ↔ (satisfies (tableOf bs) (projected ss xs) ≡ true)
-
-abbrev pub Demands : Type 0
-Demands = (bs : List ℕ) (c : ℕ) → translated bs c ≡ true → (ts ps ss : List ℕ) → Agrees bs (length (tableRows bs c)) (rowTargets bs c ++ ts) (rowPriorities bs c ++ ps) (sourceStates bs c ++ ss)
