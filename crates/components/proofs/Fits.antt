@@ -22,7 +22,7 @@ cells-fit n m t h =
     let b = and-parts (ltb m doneNumber) (leb (n * m) t) (a .1) in
     (ltb-true n doneNumber (a .0), ltb-true m doneNumber (b .0), leb-true (n * m) t (b .1))
 
-pub components-room : (n m : ℕ) (targets work out : List ℕ) → componentsFit n m targets work out ≡ true
+pub components-room : (n m : ℕ) (targets work out : List ℕ) → componentsFit n m (length targets) (length work) (length out) ≡ true
     → SearchRoom (paritySystem n m targets) targets work × (n ≤ length out)
 components-room n m targets work out h =
     let a = and-parts (cellsFit n m (length targets)) (leb (5 * n) (length work) && leb n (length out)) h in
@@ -31,9 +31,8 @@ components-room n m targets work out h =
     (record { small = c .0; letters-small = c .1; cell-room = c .2; work-room = leb-true (5 * n) (length work) (b .0) }, leb-true n (length out) (b .1))
 
 -- the test that the code makes: five entries for each state, without a product that could wrap
-pub components-tested : (n m : ℕ) (targets work out : List ℕ) (b : Bool) → b ≡ cellsFit n m (length targets)
-    → b && (leb n (length work / 5) && leb n (length out)) ≡ componentsFit n m targets work out
-components-tested n m targets work out b e = rw (e, fifth (length work)) refl
+pub components-tested : (n m t w o : ℕ) (b : Bool) → b ≡ cellsFit n m t → b && (leb n (w / 5) && leb n o) ≡ componentsFit n m t w o
+components-tested n m t w o b e = rw (e, fifth w) refl
   where
     fifth : (k : ℕ) → leb n (k / 5) ≡ leb (5 * n) k
     fifth k = bool-ext (leb n (k / 5)) (leb (5 * n) k) (λ h. le-leb (5 * n) k (omega (arith, leb-true n (k / 5) h))) (λ h. le-leb n (k / 5) (omega (arith, leb-true (5 * n) k h)))

@@ -17,12 +17,11 @@ use lib.Dec.{eqb, ltb}
 use lib.ListN.{length, take, drop, set, length-append}
 use lib.Seq.{drop-cons, drop-length, drop-set-lt, getD-set-same, lt-length-set, take-set-le, take-take}
 use borrow.Author.Tests.{eqb-true, lt-ltb}
-use Rattle.rules.specs.Arrays.{Cleared}
 use Rattle.rules.specs.Systems.{System, Path, here, step, Leads}
 use Rattle.rules.proofs.Bools.{by, clash}
 use Rattle.rules.proofs.Filling.{beyond-none, beyond-set, beyond-then, beyond-wider}
 use Rattle.rules.proofs.Reach.{path-append}
-use Rattle.components.specs.Places.{at, Put}
+use Rattle.components.specs.Places.{at, Put, FilledWith}
 use Rattle.components.specs.Reaches.{Came, Queued, ReachRoom, Untouched, ReadSays}
 use Rattle.components.specs.Calls.{PathFound}
 use Rattle.rules.proofs.Reaching.{kept-along}
@@ -184,7 +183,7 @@ untouched-then l x y =
     }
 
 -- the numbers are cleared, and the first state is met
-pub untouched-start : {n : ℕ} {numbers : List ℕ} (cleared queue parents letters : List ℕ) (from : ℕ) → Cleared 0 n numbers cleared → from < n
+pub untouched-start : {n : ℕ} {numbers : List ℕ} (cleared queue parents letters : List ℕ) (from : ℕ) → FilledWith n 0 numbers cleared → from < n
     → Untouched n 1 numbers (set cleared from 1) queue (set queue 0 from) parents parents letters letters
 untouched-start cleared queue parents letters from x l =
     record {

@@ -7,8 +7,9 @@
 --     room-kept                 arrays that keep their lengths have room
 --     SearchUnderway, underway-none, underway-more    a search since its arrays were as given
 --     searched-none, searched-root, searched-empty, all-found    how a search begins and ends
+--     found-from                a search from one state finds the components of what it reaches
 use mathlib.Core.Path.{_≡_, refl, sym, ap, _∙_}
-use mathlib.Core.Bool.{true}
+use mathlib.Core.Bool.{true, false}
 use mathlib.Core.List.{List}
 use Prim.Native.Nat.{ℕ, suc, _+_, _*_, _-_, _<_, _≤_}
 use native.Mathlib.Numerals.{add-one}
@@ -17,8 +18,11 @@ use lib.ListN.{length, set}
 use lib.Seq.{getD-take}
 use Rattle.rules.specs.Systems.{System, reaches, componentOf}
 use Rattle.components.specs.Places.{at, part, Put}
-use Rattle.components.specs.Searching.{doneNumber, numbersIn, stackIn, startsIn, waitingIn, nextIn, Letters, Searched, SearchedIn, LettersRead, Scanned, Entered, PartClosed, SearchRoom, TurnSays}
-use Rattle.rules.proofs.Reaching.{reaches-trans, reaches-step}
+use Rattle.components.specs.Searching.{doneNumber, numbersIn, stackIn, startsIn, waitingIn, nextIn, Letters, Searched, SearchedIn, LettersRead, Scanned, Entered, PartClosed, SearchRoom, Rest, TurnSays, SearchSays}
+use Rattle.components.specs.Calls.{componentFrom}
+use Rattle.rules.proofs.Reaching.{reaches-refl, reaches-trans, reaches-step, kept-along}
+use Rattle.rules.proofs.Bools.{by, clash}
+use Rattle.rules.proofs.Reach.{reaches-view}
 use Rattle.components.proofs.Stores.{put-set, part-at, part-length, part-here, part-other, part-behind}
 use Rattle.components.proofs.Searches.{same-or, parts-few, waiting-few, back, starts-below, part-read, enter, leave, grown, finish}
 use Rattle.components.proofs.Loops.{read-all}
@@ -87,6 +91,7 @@ module _ (s : System) (c p l q : ℕ) (targets work outs : List ℕ) (room : Sea
             less = rw e (omega (arith, sc .read .fewer));
             rest = λ i k. refl;
             met = λ w k n. rw e n;
+            only = λ x h. rw e h;
           }
 
       module _ (work′ : List ℕ) (lb : b < s .letters) (en : Entered (s .states) (s .go q b) c r l work work′) where
@@ -156,6 +161,7 @@ module _ (s : System) (c p l q : ℕ) (targets work outs : List ℕ) (room : Sea
               less = rw e (omega (arith, sc .read .fewer, en .fewer (sc .fresh lb .1)));
               rest = λ i k. refl;
               met = λ v k n. rw e (same-or v w (λ z. rw (z, en .number .here) (omega arith)) (λ d. rw (en .number .others v d) n));
+              only = λ x h. rw e (λ v k n. same-or v w (λ z. rw z (reaches-trans s x q w (h q q-state (omega arith)) (reaches-step s q b lb (sc .fresh lb .0)))) (λ d. h v k (rw (en .number .others v d) at n)));
             }
 
 -- the last part is a component
@@ -179,8 +185,9 @@ module _ (s : System) (c p l : ℕ) (targets work work′ outs outs′ : List �
             record {
               after = record { searched = rw (behind n (omega arith), behind (2 * n) (omega arith), behind (3 * n) (omega arith), behind (4 * n) (omega arith)) (finish s c (p - 1) l _ _ _ _ _ _ whole (room .small) quiet (h .label) (h .smallest) (at (numbersIn n work′)) (at outs′) (st .number) (st .out) (st .number-others) (st .out-others)) };
               less = omega (arith, st .fewer);
-              rest = λ i b. st .out-others i (λ j f u e. omega (arith, x .searched .places .state j u));
+              rest = λ i z. st .out-others i (λ j f u e. omega (arith, z (rw e (x .searched .places .state j u)), ap (at (numbersIn n work′)) e, st .number j f u));
               met = λ q b z. omega (arith, grown s c (p - 1) l _ _ _ _ _ _ whole (room .small) quiet (h .label) (h .smallest) (at (numbersIn n work′)) (at outs′) (st .number) (st .out) (st .number-others) (st .out-others) q b);
+              only = λ v h q b z. same-or (at (numbersIn n work) q) 0 (λ e. absurd (omega (arith, st .number-others q (λ j f u d. omega (arith, ap (at (numbersIn n work)) d, x .searched .places .numbered j u))))) (λ d. h q b (omega arith));
             }
 
 -- nothing waits beyond what waits last
@@ -199,7 +206,7 @@ pub record SearchUnderway (s : System) (c p l : ℕ) (targets work work′ outs 
   pub room : SearchRoom s targets work′
   pub work-size : length work′ ≡ length work
   pub out-size : length outs′ ≡ length outs
-  pub rest : (i : ℕ) → s .states ≤ i → at outs′ i ≡ at outs i
+  pub rest : Rest s work′ outs outs′
   pub met : (q : ℕ) → q < s .states → 0 < at (numbersIn (s .states) work) q → 0 < at (numbersIn (s .states) work′) q
 
 pub underway-none : (s : System) (c p l : ℕ) (targets work outs : List ℕ) → SearchedIn s c p l work outs → SearchRoom s targets work
@@ -210,7 +217,7 @@ underway-none s c p l targets work outs x r =
 module _ (s : System) (c p l c′ p′ l′ : ℕ) (targets work work′ work″ outs outs′ outs″ : List ℕ)
     (x : SearchUnderway s c p l targets work work′ outs outs′) (e : length work″ ≡ length work′) (d : length outs″ ≡ length outs′)
     (y : SearchedIn s c′ p′ l′ work″ outs″)
-    (rest : (i : ℕ) → s .states ≤ i → at outs″ i ≡ at outs′ i)
+    (rest : Rest s work″ outs′ outs″)
     (met : (q : ℕ) → q < s .states → 0 < at (numbersIn (s .states) work′) q → 0 < at (numbersIn (s .states) work″) q)
   where
     pub underway-more : SearchUnderway s c′ p′ l′ targets work work″ outs outs″
@@ -220,7 +227,7 @@ module _ (s : System) (c p l c′ p′ l′ : ℕ) (targets work work′ work″
           room = room-kept s targets work′ work″ (x .room) e;
           work-size = e ∙ x .work-size;
           out-size = d ∙ x .out-size;
-          rest = λ i h. rest i h ∙ x .rest i h;
+          rest = λ i h. rest i h ∙ x .rest i (λ l. same-or (at (numbersIn (s .states) work′) i) 0 (λ e. e) (λ z. absurd (omega (arith, met i l (omega arith), h l))));
           met = λ q h n. met q h (x .met q h n);
         }
 
@@ -257,3 +264,28 @@ searched-empty s c p l work outs x h =
 pub all-found : (s : System) (work outs : List ℕ) → SearchedIn s 0 0 0 work outs
     → (q : ℕ) → q < s .states → 0 < at (numbersIn (s .states) work) q → at outs q ≡ componentOf s q
 all-found s work outs x q l h = x .searched .found .component q l (x .searched .places .done q l h)
+
+-- what a search from one state leaves, where nothing was met
+module _ (s : System) (root : ℕ) (work work′ outs outs′ : List ℕ) (x : SearchSays s root work work′ outs outs′) (l : root < s .states)
+    (none : (q : ℕ) → q < s .states → at (numbersIn (s .states) work) q ≡ 0)
+  where
+    abbrev IsDone : ℕ → Type 0
+    IsDone q = (q < s .states) × (at (numbersIn (s .states) work′) q ≡ doneNumber)
+
+    -- it meets what the state reaches, and nothing else
+    reached-done : (q : ℕ) → reaches s root q ≡ true → IsDone q
+    reached-done q h =
+        let y = x .after .searched in
+        kept-along s IsDone (λ p a d la t. (t, y .found .closed p a (d .0) (d .1) la t)) (reaches-view s root q .0 h .1) (l, y .places .done root l (x .root-met))
+
+    unmet : (q : ℕ) → reaches s root q ≡ false → q < s .states → at (numbersIn (s .states) work′) q ≡ 0
+    unmet q h lq =
+        same-or (at (numbersIn (s .states) work′) q) 0 (λ e. e)
+        (λ d. clash (x .only root (reaches-refl s root) (λ p lp n. absurd (omega (arith, none p lp))) q lq (omega arith)) h)
+
+    pub found-from : (q : ℕ) → at outs q ≡ s .states → q < s .states → at outs′ q ≡ componentFrom s root q
+    found-from q z lq =
+        by
+        (reaches s root q)
+        (λ h. rw h (x .after .searched .found .component q lq (reached-done q h .1)))
+        (λ h. rw h (x .rest q (unmet q h) ∙ z))

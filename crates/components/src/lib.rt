@@ -1,7 +1,7 @@
 // The components of a transition system in time linear in its cells, and all that a state reaches with a path to each, for any number of
 // states below 65,535. It rests on `rules` and knows a system only as an array of targets: the cell of state q and letter a is number
-// q · m + a, and a target that is no state means that there is no transition. `find_components`, `find_reached` and `path_to` keep the
-// promises `ComponentsFound`, `ReachFound` and `PathFound` of this crate, for all sizes and arrays; what does not fit is answered as such.
+// q · m + a, and a target that is no state means that there is no transition. `find_components`, `find_components_from`, `find_reached` and
+// `path_to` keep the promises `ComponentsFound`, `ComponentsReached`, `ReachFound` and `PathFound` of this crate, for all sizes and arrays; what does not fit is answered as such.
 mod cells;
 mod paths;
 mod reach;
@@ -9,8 +9,8 @@ mod reach;
 ghost use mathlib.Core.Path.{_≡_};
 ghost use Prim.Native.Nat.{_≤_};
 ghost use lib.ListN.{length};
-ghost use Rattle.rules.specs.Arrays.{Cleared};
-ghost use Rattle.components.specs.Calls.{cellsFit, reachFits, ComponentsFound, ReachFound, PathFound};
+ghost use Rattle.components.specs.Places.{FilledWith};
+ghost use Rattle.components.specs.Calls.{cellsFit, componentsFit, reachFits, ComponentsFound, ComponentsReached, ReachFound, PathFound};
 
 // The sizes are small enough, and there is a target for each cell.
 fn cells_fit(states: usize, letters: usize, cells: usize) -> bool
@@ -39,21 +39,28 @@ fn reach_fits(
     cells_fit(states, letters, cells) & ((letters <= 256) & ((from < states) & arrays))
 }
 
-// Clears the first n entries.
-fn clear(n: usize, array: &mut [u16])
+// Writes a value into the first n entries.
+fn fill(n: usize, value: u16, array: &mut [u16])
     requires { ⌜ n ≤ length (now array) ⌝ }
-    ensures { λ _. ⌜ Cleared 0 n (now (array .entry)) (now (array .exit)) ⌝ }
+    ensures { λ _. ⌜ FilledWith n value (now (array .entry)) (now (array .exit)) ⌝ }
 {
     let mut q = 0;
-    // the entries below q are cleared
+    // the entries below q are written
     while q < n {
-        array[q] = 0;
+        array[q] = value;
         q += 1;
     }
 }
 
-// The smallest state of each state's component, in the first entries of `out`; false where the sizes or an array do not fit. The search
-// needs five entries of `work` for each state, which a quotient tests since a product could wrap; what they hold afterwards is unspecified.
+// A search for components can begin. It needs five entries of `work` for each state, which a quotient tests since a product could wrap.
+fn components_fit(states: usize, letters: usize, cells: usize, work: usize, out: usize) -> bool
+    ensures { λ r. ⌜ r ≡ componentsFit states letters cells work out ⌝ }
+{
+    cells_fit(states, letters, cells) & ((states <= work / 5) & (states <= out))
+}
+
+// The smallest state of each state's component, in the first entries of `out`; false where the sizes or an array do not fit. What `work`
+// holds afterwards is unspecified.
 pub fn find_components(
     states: usize,
     letters: usize,
@@ -63,18 +70,37 @@ pub fn find_components(
 ) -> bool
     ensures { λ r. ⌜ ComponentsFound states letters (now (targets .entry)) (now (work .entry)) (now (out .entry)) (now (out .exit)) r ⌝ }
 {
-    let fits = cells_fit(states, letters, targets.len())
-        & ((states <= work.len() / 5) & (states <= out.len()));
-    if !fits {
+    if !components_fit(states, letters, targets.len(), work.len(), out.len()) {
         return false;
     }
-    clear(5 * states, work);
+    fill(5 * states, 0, work);
     let mut q = 0;
     // no state is open, and the states below q have their component
     while q < states {
         paths::search(states, letters, targets, q, work, out);
         q += 1;
     }
+    true
+}
+
+// The same for what one state reaches: a state that it does not reach gets the number of the states, which is no state.
+pub fn find_components_from(
+    states: usize,
+    letters: usize,
+    targets: &[u16],
+    from: usize,
+    work: &mut [u16],
+    out: &mut [u16],
+) -> bool
+    ensures { λ r. ⌜ ComponentsReached states letters from (now (targets .entry)) (now (work .entry)) (now (out .entry)) (now (out .exit)) r ⌝ }
+{
+    let fits = components_fit(states, letters, targets.len(), work.len(), out.len());
+    if !(fits & (from < states)) {
+        return false;
+    }
+    fill(5 * states, 0, work);
+    fill(states, states as u16, out);
+    paths::search(states, letters, targets, from, work, out);
     true
 }
 
@@ -105,7 +131,7 @@ pub fn find_reached(
     if !fits {
         return 0;
     }
-    clear(states, numbers);
+    fill(states, 0, numbers);
     numbers[from] = 1;
     queue[0] = from as u16;
     let mut met = 1;

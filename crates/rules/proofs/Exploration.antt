@@ -5,6 +5,7 @@
 --     with-longer, with-row, by-next, by-grows    what a transition, and letters, leave of the rows found
 --     from-on, from-stop    a row more is read, or none
 --     explored              at the end all rows have been read, unless there are too many
+--     rows-distinct         no row is found twice
 --     rows-view             the rows found are the reachable ones, each once, in order of discovery; full exactly if more than c are reachable
 use mathlib.Core.Path.{_≡_, refl, sym, ap, _∙_, subst}
 use mathlib.Core.Logic.{_↔_, _⊎_, inl, inr, ⊎-elim}
@@ -310,8 +311,8 @@ module _ {A : Type 0} (g : Plan A) (law : SameIsEqual g) where
     discovered : (k : ℕ) → 0 < k → k < length rs → Discovered g rs k
     discovered = explored c .rows .ordered
 
-    distinct : Distinct g rs
-    distinct i j l lj e =
+    pub rows-distinct : Distinct g rs
+    rows-distinct i j l lj e =
         let z : i ≡ j = sym (once i (omega arith)) ∙ ap (λ (r : A). numberOf g r rs) e ∙ once j lj in
         omega arith
 
@@ -338,7 +339,7 @@ module _ {A : Type 0} (g : Plan A) (law : SameIsEqual g) where
         subst (λ (z : A). numberOf g (g .step z a .to) rs < length rs) e (explored c .rows .closed (numberOf g x rs) a (inl read) l n (rw e t))
 
     full : (isFull g c ≡ true) ↔ MoreThan g c
-    full = (λ h. record { many = rs; more = ltb-true c (length rs) h; distinct = distinct; reached = reached }, λ f. by (isFull g c) (λ e. e) (λ e. absurd (crowded e f)))
+    full = (λ h. record { many = rs; more = ltb-true c (length rs) h; distinct = rows-distinct; reached = reached }, λ f. by (isFull g c) (λ e. e) (λ e. absurd (crowded e f)))
       where
         crowded : isFull g c ≡ false → MoreThan g c → ⊥
         crowded e f =

@@ -13,6 +13,7 @@ pub mod Walks
 pub mod Agreement
 pub mod Exploration
 pub mod Arrays
+pub mod Orderings
 pub mod Coding
 pub mod Reading
 pub mod Filling
@@ -23,6 +24,7 @@ pub mod RabinTables
 pub mod Numbers
 pub mod Demands
 pub mod Meanings
+pub mod Forecasts
 pub mod Cards
 pub mod Texts
 pub mod Listings

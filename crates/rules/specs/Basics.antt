@@ -5,6 +5,8 @@
 --     any b xs           test: some element of xs passes the test b
 --     SameSet xs ys      claim: xs and ys hold the same elements: every test passes in both or in neither
 --     anyBelow n b       test: some number below n passes the test b
+--     sumBelow n f       number: the sum of f i over the numbers i below n
+--     mostBelow n f      number: the largest f i over the numbers i below n, 0 if there is none
 --     isIn x xs          test: x is in xs
 --     occurs x xs        number: how often x is in xs
 --     keep b xs          list: the elements that pass the test b, in their order
@@ -45,6 +47,14 @@ SameSet {A} xs ys = (b : A → Bool) → any b xs ≡ any b ys
 abbrev pub anyBelow : ℕ → (ℕ → Bool) → Bool
 anyBelow zero b = false
 anyBelow (suc n) b = b n || anyBelow n b
+
+abbrev pub sumBelow : ℕ → (ℕ → ℕ) → ℕ
+sumBelow zero f = 0
+sumBelow (suc n) f = f n + sumBelow n f
+
+abbrev pub mostBelow : ℕ → (ℕ → ℕ) → ℕ
+mostBelow zero f = 0
+mostBelow (suc n) f = max (f n) (mostBelow n f)
 
 abbrev pub isIn : ℕ → List ℕ → Bool
 isIn x xs = any (λ y. eqb x y) xs

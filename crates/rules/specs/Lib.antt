@@ -13,6 +13,7 @@ pub mod Tables
 pub mod Judges
 pub mod Constructions
 pub mod Claims
+pub mod Forecasts
 pub mod Says
 pub mod Texts
 pub mod Listings

@@ -15,6 +15,9 @@
 --     rowArrays ts ps ss es                  the four as one record
 --     TranslateSays bs c o o′ number rows    claim: translating with the capacity c gives this refusal and count, and the arrays o become o′
 --     TranslationAgrees bs ts′ ps′ ss′ number rows    claim: demand 3 of the arrays as they are left, whatever the entries past the rows
+--     ForecastSays bs number rows pairs      claim: the forecast of a table gives this refusal and these figures
+--     ForecastMeans bs number rows pairs     claim: what the figures bound, for every capacity: the reachable rows, the rows of a translation,
+--                                            and the priorities
 --     RabinSays, ParitySays                  claims: judging a looped word gives this answer
 --     ComponentsMean, TranslationMeans, RabinMeans, ParityMeans    claims: what the equalities above mean, in terms of paths, reachable rows,
 --                                            orderings, missing transitions and recurring ones
@@ -22,7 +25,7 @@
 use mathlib.Core.Path.{_≡_}
 use mathlib.Core.Bool.{Bool, _||_}
 use mathlib.Core.List.{List, [], _++_}
-use Prim.Native.Nat.{ℕ, _-_, _*_}
+use Prim.Native.Nat.{ℕ, _+_, _-_, _*_, _≤_}
 use lib.Dec.{eqb, ltb}
 use lib.ListN.{length, getD, drop, replicate}
 use Rattle.rules.specs.Basics.{pick, firstOf, when, tabulate}
@@ -34,6 +37,7 @@ use Rattle.rules.specs.Rows.{Row, Reached, MoreThan, RowsAre}
 use Rattle.rules.specs.Tables.{Table, tableOf, tableFault, systemOf, IsOrdering, tablePlan, StepIs}
 use Rattle.rules.specs.Answers.{Answer, JudgedAs}
 use Rattle.rules.specs.Judges.{satisfies, paritySystem, parityGood, wordFault, parityFault, rabinJudge, parityJudge, restOf}
+use Rattle.rules.specs.Forecasts.{forecastRows, forecastPairs}
 use Rattle.rules.specs.Claims.{tableRows, rowTargets, rowPriorities, sourceStates, recordNumbers, exceeds, Agrees}
 
 abbrev pub CheckSays : List ℕ → ℕ → Type 0
@@ -104,6 +108,21 @@ pub record TranslationMeans (bs : List ℕ) (c number : ℕ) : Type 0 where
   pub orderings : tableFault bs ≡ 0 → {r : Row (List ℕ)} → Reached (tablePlan (tableOf bs)) r → IsOrdering (tableOf bs) (r .source) (r .memory)
   pub numbers : tableFault bs ≡ 0 → {r r′ : Row (List ℕ)} → Reached (tablePlan (tableOf bs)) r → Reached (tablePlan (tableOf bs)) r′
       → decimal (r .memory) ≡ decimal (r′ .memory) → r .memory ≡ r′ .memory
+
+-- forecasting
+pub record ForecastSays (bs : List ℕ) (number rows pairs : ℕ) : Type 0 where
+  pub refusal : number ≡ tableFault bs
+  pub row-figure : rows ≡ pick (eqb number 0) (forecastRows (tableOf bs)) 0
+  pub pair-figure : pairs ≡ pick (eqb number 0) (forecastPairs (tableOf bs)) 0
+
+pub record ForecastMeans (bs : List ℕ) (number rows pairs : ℕ) : Type 0 where
+  -- no list of more than `rows` different rows is reachable
+  pub bound : number ≡ 0 → MoreThan (tablePlan (tableOf bs)) rows → ⊥
+  -- so a translation with a capacity of at least `rows` is not refused 8, and none has more rows, whatever is lent
+  pub enough : number ≡ 0 → (c : ℕ) (o o′ : RowArrays) (answer count : ℕ) → TranslateSays bs c o o′ answer count → rows ≤ c → answer ≡ Refusal.full → ⊥
+  pub within : (c : ℕ) (o o′ : RowArrays) (answer count : ℕ) → TranslateSays bs c o o′ answer count → count ≤ rows
+  -- no transition of a reachable row has a larger priority, also where a capacity is refused 8
+  pub priorities : number ≡ 0 → {r : Row (List ℕ)} → Reached (tablePlan (tableOf bs)) r → (a : ℕ) → tablePlan (tableOf bs) .step r a .prio ≤ 2 * pairs + 1
 
 -- judging
 abbrev pub RabinSays : List ℕ → List ℕ → List ℕ → Answer → Type 0

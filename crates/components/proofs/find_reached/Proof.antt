@@ -39,16 +39,16 @@ module _ (c : tie.Else1 Inv-loop μ-loop) where
   room = let a = start .args in reach-room (a .states) (a .letters) (a .from) (a .targets .now) (a .numbers .now) (a .queue .now) (a .parents .now) (a .by .now) fit
 
 -- the numbers are cleared
-module _ (c : tie.After-clear Inv-loop μ-loop) where
+module _ (c : tie.After-fill Inv-loop μ-loop) where
   abbrev else : tie.Else1 Inv-loop μ-loop
   else = c .before .before
 
   abbrev cleared : List ℕ
-  cleared = c .clear .last .1 .0
+  cleared = c .fill .last .1 .1 .0
 
   begun : let a = start else .args in
       Untouched (a .states) 1 (a .numbers .now) (set cleared (a .from) 1) (a .queue .now) (set (a .queue .now) 0 (a .from)) (a .parents .now) (a .parents .now) (a .by .now) (a .by .now)
-  begun = let a = start else .args in untouched-start cleared (a .queue .now) (a .parents .now) (a .by .now) (a .from) (c .clear .ensures) (room else .1)
+  begun = let a = start else .args in untouched-start cleared (a .queue .now) (a .parents .now) (a .by .now) (a .from) (c .fill .ensures) (room else .1)
 
 returns : tie.Need-returns Inv-loop μ-loop
 returns c =
@@ -59,7 +59,7 @@ mul-numbers : tie.Need-mul-numbers Inv-loop μ-loop
 mul-numbers c = let r = room (c .before .before .before .before) in omega (arith, r .1, r .0 .small)
 
 slice-write-numbers : tie.Need-slice-write-numbers Inv-loop μ-loop
-slice-write-numbers c = let r = room (c .before .before .before .before) in omega (arith, r .1, r .0 .number-room, c .before .before .clear .ensures .size)
+slice-write-numbers c = let r = room (c .before .before .before .before) in omega (arith, r .1, r .0 .number-room, c .before .before .fill .ensures .size)
 
 cast-queue : tie.Need-cast-queue Inv-loop μ-loop
 cast-queue c = let r = room (c .before .before .before .before) in omega (arith, r .1, r .0 .small)
@@ -69,12 +69,12 @@ slice-write-queue c = let r = room (c .before .before .before .before) in omega 
 
 loop-holds : tie.Need-loop-holds Inv-loop μ-loop
 loop-holds c =
-    let u : tie.After-clear Inv-loop μ-loop = c .before .before in
-    let x = u .clear .ensures in
+    let u : tie.After-fill Inv-loop μ-loop = c .before .before in
+    let x = u .fill .ensures in
     let r = room (else u) in
     let a = start (else u) .args in (
       omega arith,
-      reaching-none _ _ _ _ _ _ _ _ _ _ (reached-start _ _ _ _ _ _ _ _ (r .1) (λ q l. x .zeros q (omega arith) l) (put-set (cleared u) (a .from) 1 (omega (arith, r .1, r .0 .number-room, x .size))) (put-set (a .queue .now) 0 (a .from) (omega (arith, r .1, r .0 .queue-room))))
+      reaching-none _ _ _ _ _ _ _ _ _ _ (reached-start _ _ _ _ _ _ _ _ (r .1) (λ q l. x .done q l) (put-set (cleared u) (a .from) 1 (omega (arith, r .1, r .0 .number-room, x .size))) (put-set (a .queue .now) 0 (a .from) (omega (arith, r .1, r .0 .queue-room))))
           (reach-room-kept _ _ _ _ _ _ _ _ _ _ _ (r .0) (begun u)),
     )
 
