@@ -9,10 +9,10 @@ use lib.ListN.{length, getD}
 use Rattle.rules.specs.Basics.{keep, tabulate}
 use Rattle.rules.specs.Tables.{tableOf, tableFault, rising}
 use Rattle.records.specs.Packed.{limit, isMarked}
-use Rattle.survey.specs.Layouts.{LaySays, SurveySays}
+use Rattle.survey.specs.Layouts.{HasCells, LaySays, SurveySays}
 use Rattle.survey.proofs.Laying.{is-table}
-use Rattle.translate.specs.Cells.{HasCells}
-use Rattle.translate.proofs.CellCodes.{lay-fault, many-cells, laid-table, surveyed, rising-marked}
+use Rattle.survey.proofs.Tables.{lay-fault, many-cells, laid-table, surveyed}
+use Rattle.translate.proofs.CellCodes.{rising-marked}
 
 module _ {bs ts ts′ ms ms′ hs hs′ cs cs′ : List ℕ} {number n m start : ℕ} {fits : Bool} (formed : tableFault bs ≡ 0) (lt : 1024 ≤ length ts) (lm : 1024 ≤ length ms) (lh : 64 ≤ length hs) (lc : 64 ≤ length cs) (kt : length ts′ ≡ length ts) (km : length ms′ ≡ length ms) (kh : length hs′ ≡ length hs) (kc : length cs′ ≡ length cs) (lay : LaySays bs ts ts′ ms ms′ number n m start) (survey : SurveySays n m ts′ ms′ hs hs′ cs cs′ fits) where
   target-cells : HasCells bs (length ts)

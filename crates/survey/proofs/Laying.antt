@@ -39,7 +39,7 @@ cut-bits : (b : ℕ → Bool) (k d : ℕ) → ((i : ℕ) → k ≤ i → b i ≡
 cut-bits b k zero none = let e : k + 0 ≡ k = omega arith in rw e
 cut-bits b k (suc d) none = let e : k + suc d ≡ suc (k + d) = omega arith in rw (e, none (k + d) (omega arith)) (omega (arith, cut-bits b k d none))
 
-same-bits : (b d : ℕ → Bool) (k : ℕ) → ((i : ℕ) → b i ≡ d i) → asBits k b ≡ asBits k d
+pub same-bits : (b d : ℕ → Bool) (k : ℕ) → ((i : ℕ) → b i ≡ d i) → asBits k b ≡ asBits k d
 same-bits b d zero same = refl
 same-bits b d (suc k) same = rw (same k, same-bits b d k same)
 

@@ -2,3 +2,4 @@
 pub mod Laying
 pub mod Promises
 pub mod Surveying
+pub mod Tables

@@ -3,6 +3,7 @@
 --     components-short, lay-short        an array too short
 --     components-found, laid             done
 --     components-promised                the components' second promise, from the first
+--     homes-fit                          a search for components fits what a table can have
 --     survey-room                        what holds where a survey fits
 use mathlib.Core.Path.{_≡_, refl}
 use mathlib.Core.Bool.{Bool, true, false, _&&_, _||_}
@@ -11,13 +12,14 @@ use Prim.Native.Nat.{ℕ, zero, suc, _*_, _<_, _≤_}
 use native.Mathlib.Omega.{arith}
 use lib.Dec.{eqb·suc-zero, leb, ltb}
 use lib.ListN.{length}
-use borrow.Author.Tests.{lt-ltb, le-ltb, leb-true}
+use borrow.Author.Tests.{lt-ltb, le-ltb, le-leb, leb-true}
 use Rattle.rules.specs.Limits.{maxStates, maxLetters}
 use Rattle.rules.specs.Refusals as Refusal
 use Rattle.rules.specs.Tables.{tableOf, tableFault}
 use Rattle.rules.specs.Says.{over, components, ComponentsSay, ComponentsMean}
 use Rattle.rules.proofs.Bools.{and-parts}
 use Rattle.rules.proofs.Meanings.{components-mean}
+use Rattle.components.specs.Calls.{cellsFit}
 use Rattle.tables.specs.Parts.{WellFormed}
 use Rattle.survey.specs.Layouts.{targetCells, markCells, layFault, LaySays, surveyFits}
 
@@ -59,6 +61,12 @@ module _ (bs : List ℕ) (formed : WellFormed bs) where
         → LaySays bs ts ts′ ms ms′ 0 (tableOf bs .states) (tableOf bs .letters) (tableOf bs .start)
     laid ts′ ms′ e et em =
         record { refusal = rw (formed, e); state-count = refl; letter-count = refl; start-state = refl; target-array = et; mark-array = em }
+
+-- a search for components fits what a table can have
+pub homes-fit : (n m t o : ℕ) → n ≤ maxStates → m ≤ maxLetters → n * m ≤ t → n ≤ o
+    → cellsFit n m t && (leb (5 * n) (5 * maxStates) && leb n o) ≡ true
+homes-fit n m t o ln lm lt lo =
+    rw (lt-ltb n 65535 (omega arith), lt-ltb m 65535 (omega arith), le-leb (n * m) t lt, le-leb (5 * n) (5 * maxStates) (omega arith), le-leb n o lo)
 
 -- a survey that fits has room
 pub survey-room : (n m a b c d : ℕ) → surveyFits n m a b c d ≡ true

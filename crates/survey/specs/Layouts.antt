@@ -7,6 +7,7 @@
 --     MarksLaid t ms                claim: the array holds the masks of t, by state and letter
 --     IsTable t                     claim: the sizes of t are in range, its start is a state, and no marks have a bit above its pairs
 --     countedPairs t q              number: the pairs that count in q's component, as bits: bit i - 1 for pair i
+--     HasCells bs k                 claim: an array of k entries has room for the cells of the table that the bytes give, if it is well formed
 --     layFault bs a b               refusal: the table's, then 7 where an array of a or of b entries is too short for its cells
 --     LaySays bs ..                 claim: laying out: both arrays, entries past the cells untouched, and the sizes; on a refusal nothing is
 --                                   written and all sizes are 0
@@ -14,6 +15,8 @@
 --     requiredIn m ms i p a         test, the one that bit i stands for: the transition of p by a, if it is inside, makes pair i + 1 count
 --     pairBits                      number: how many bits a set of pairs has
 --     countedIn n m ts ms q         number: the pairs that count in q's component, as bits, by the laid-out cells
+--     countedFrom n m from ts ms q    number: the pairs that count in q's component where `from` reaches q, else none
+--     ReachedSays n m from ..       claim: surveying what one state reaches
 --     SurveySays n m ..             claim: surveying: both arrays, entries past the states untouched; nothing is written where it does not fit
 use mathlib.Core.Path.{_≡_}
 use mathlib.Core.Bool.{Bool, _&&_, _||_}
@@ -25,9 +28,11 @@ use Rattle.rules.specs.Basics.{pick, firstOf, when, tabulate, bit, asBits}
 use Rattle.rules.specs.Judges.{paritySystem}
 use Rattle.rules.specs.Limits.{maxStates, maxLetters, maxPairs, noState, noRow}
 use Rattle.rules.specs.Refusals as Refusal
-use Rattle.rules.specs.Systems.{componentOf, someWithin, cell}
+use Rattle.rules.specs.Systems.{componentOf, reaches, someWithin, cell}
 use Rattle.rules.specs.Tables.{Table, tableOf, tableFault, targetOf, prohibitedByte, requiredByte, counts}
 use Rattle.rules.specs.Says.{over}
+use Rattle.tables.specs.Parts.{WellFormed}
+use Rattle.components.specs.Calls.{componentFrom}
 
 abbrev pub wideTarget : ℕ → ℕ
 wideTarget x = pick (eqb x noState) noRow x
@@ -63,6 +68,9 @@ abbrev pub countedPairs : Table → ℕ → ℕ
 countedPairs t q = asBits (t .pairs) (λ i. counts t q (suc i))
 
 -- laying out
+abbrev pub HasCells : List ℕ → ℕ → Type 0
+HasCells bs k = WellFormed bs → tableOf bs .states * tableOf bs .letters ≤ k
+
 abbrev pub layFault : List ℕ → ℕ → ℕ → ℕ
 layFault bs a b =
     let cells = tableOf bs .states * tableOf bs .letters in
@@ -93,3 +101,12 @@ pub record SurveySays (n m : ℕ) (ts ms hs hs′ cs cs′ : List ℕ) (r : Bool
   pub answer : r ≡ surveyFits n m (length ts) (length ms) (length hs) (length cs)
   pub home-array : hs′ ≡ pick r (over (tabulate n 0 (componentOf (paritySystem n m ts))) hs) hs
   pub counted-array : cs′ ≡ pick r (over (tabulate n 0 (countedIn n m ts ms)) cs) cs
+
+-- surveying what one state reaches
+abbrev pub countedFrom : ℕ → ℕ → ℕ → List ℕ → List ℕ → ℕ → ℕ
+countedFrom n m from ts ms q = pick (reaches (paritySystem n m ts) from q) (countedIn n m ts ms q) 0
+
+pub record ReachedSays (n m from : ℕ) (ts ms hs hs′ cs cs′ : List ℕ) (r : Bool) : Type 0 where
+  pub answer : r ≡ surveyFits n m (length ts) (length ms) (length hs) (length cs) && ltb from n
+  pub home-array : hs′ ≡ pick r (over (tabulate n 0 (componentFrom (paritySystem n m ts) from)) hs) hs
+  pub counted-array : cs′ ≡ pick r (over (tabulate n 0 (countedFrom n m from ts ms)) cs) cs

@@ -1,6 +1,6 @@
 // Lays a Rabin table out in arrays, and says of each state its component and the pairs that count there: a translation looks at no bytes after that.
 // It rests on `tables`, which checks the bytes, and on `components`. `find_components` keeps the promises `ComponentsSay` and `ComponentsMean` of the
-// rules, `lay_table` and `survey_cells` keep `LaySays` and `SurveySays` of this crate, for all bytes, sizes and arrays.
+// rules, `lay_table`, `survey_cells` and `survey_reached` keep `LaySays`, `SurveySays` and `ReachedSays` of this crate, for all bytes, sizes and arrays.
 use rules::limit::HEADER_SIZE;
 use rules::limit::MAX_LETTERS;
 use rules::limit::MAX_STATES;
@@ -13,7 +13,7 @@ mod layout;
 
 ghost use mathlib.Core.Path.{_≡_};
 ghost use Rattle.rules.specs.Says.{ComponentsSay, ComponentsMean};
-ghost use Rattle.survey.specs.Layouts.{LaySays, surveyFits, SurveySays};
+ghost use Rattle.survey.specs.Layouts.{LaySays, surveyFits, SurveySays, ReachedSays};
 
 // The smallest state of each state's component, in the first n entries of `out`.
 pub fn find_components(table: &[u8], out: &mut [u8]) -> u8
@@ -124,6 +124,35 @@ pub fn survey_cells(
         return false;
     }
     homes::find_homes(states, letters, targets, homes);
+    counted::write_counted(states, letters, targets, marks, homes, counted);
+    true
+}
+
+// The same for what one state reaches: a state that it does not reach gets the number of the states as its component, and no pairs; false
+// also where it is no state.
+pub fn survey_reached(
+    states: usize,
+    letters: usize,
+    from: usize,
+    targets: &[u16],
+    marks: &[u16],
+    homes: &mut [u16],
+    counted: &mut [u8],
+) -> bool
+    ensures { λ r. ⌜ ReachedSays states letters from (now (targets .entry)) (now (marks .entry)) (now (homes .entry)) (now (homes .exit)) (now (counted .entry)) (now (counted .exit)) r ⌝ }
+{
+    let fits = survey_fits(
+        states,
+        letters,
+        targets.len(),
+        marks.len(),
+        homes.len(),
+        counted.len(),
+    );
+    if !(fits & (from < states)) {
+        return false;
+    }
+    homes::find_homes_from(states, letters, targets, from, homes);
     counted::write_counted(states, letters, targets, marks, homes, counted);
     true
 }

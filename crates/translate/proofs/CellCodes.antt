@@ -1,10 +1,7 @@
 -- The codes of cells, from a table that is laid out and what was surveyed of it.
---     lay-fault                   with room for the cells of a well-formed table, laying out refuses nothing but the table
---     few-cells, many-cells       there is such room in small arrays for a table of few bytes, in large ones for any
---     LaidTable t n m start ts ms, laid-table    what is laid out of a well-formed table: its sizes and its start, and its cells in the arrays
+--     few-cells                   there is room for its cells in small arrays for a table of few bytes
 --     key-small, code-entered     the key at which a state is entered, by any set of pairs, and a code by such keys
 --     rising-marked               the rising pairs of a state, from the set of the pairs that count
---     laid-fit, surveyed          there is room for the cells that are laid out where there is for the table's, and what a survey of them leaves
 --     first-key, cells-room       the key of the first row, and room for the codes
 --     code-laid, codes-written    the code that the laid-out cells give a transition is the table's, and so are those of all cells
 use mathlib.Core.Path.{_≡_, refl, ap, _∙_}
@@ -29,50 +26,16 @@ use Rattle.rules.proofs.Bools.{by}
 use Rattle.rules.proofs.Refusals.{table-facts}
 use Rattle.records.specs.Packed.{limit, isMarked}
 use Rattle.records.proofs.Packing.{kept-below, rising-below}
-use Rattle.survey.specs.Layouts.{wideTarget, TargetsLaid, MarksLaid, IsTable, countedPairs, countedIn, layFault, LaySays, surveyFits, SurveySays}
-use Rattle.tables.specs.Parts.{WellFormed}
+use Rattle.survey.specs.Layouts.{wideTarget, IsTable, countedPairs, HasCells}
 use Rattle.survey.specs.Parts.{Listed}
-use Rattle.survey.proofs.Laying.{targets-laid, marks-laid, laid-homes, laid-counted}
-use Rattle.survey.proofs.Surveying.{home-inside, listed}
+use Rattle.survey.proofs.Surveying.{home-inside}
+use Rattle.survey.proofs.Tables.{LaidTable}
 use Rattle.explore.specs.Cells.{span}
-use Rattle.translate.specs.Cells.{cutMarks, entryKey, cellCode, codeOf, codeIn, risingKey, CodesRoom, Written, TableCodes, HasCells}
+use Rattle.translate.specs.Cells.{cutMarks, entryKey, cellCode, codeOf, codeIn, risingKey, CodesRoom, Written, TableCodes}
 
--- ---- room for the cells
--- a refusal that is given only with another adds nothing
-first-only : (x r : ℕ) → (x ≡ 0 → r ≡ 0) → firstOf x r ≡ x
-first-only zero r h = h refl
-first-only (suc x) r h = refl
-
-module _ (bs : List ℕ) where
-  pub lay-fault : (a b : ℕ) → HasCells bs a → HasCells bs b → layFault bs a b ≡ tableFault bs
-  lay-fault a b la lb =
-      let cells = tableOf bs .states * tableOf bs .letters in
-      first-only (tableFault bs) _ (λ z. rw (le-ltb a cells (la z), le-ltb b cells (lb z)))
-
-  pub few-cells : length bs ≤ 196 → HasCells bs 64
-  few-cells l formed = let e = table-facts bs formed .exact in omega arith
-
-  pub many-cells : HasCells bs (maxStates * maxLetters)
-  many-cells formed = table-facts bs formed .sizes .most-cells
-
--- ---- the codes of a laid-out table
-pub record LaidTable (t : Table) (n m start : ℕ) (ts ms : List ℕ) : Type 0 where
-  pub states : n ≡ t .states
-  pub letters : m ≡ t .letters
-  pub start-state : start ≡ t .start
-  pub targets : TargetsLaid t ts
-  pub marks : MarksLaid t ms
-
-pub laid-table : {bs ts ts′ ms ms′ : List ℕ} {number n m start : ℕ} → WellFormed bs → number ≡ 0 → length ts′ ≡ length ts → length ms′ ≡ length ms
-    → HasCells bs (length ts) → HasCells bs (length ms) → LaySays bs ts ts′ ms ms′ number n m start → LaidTable (tableOf bs) n m start ts′ ms′
-laid-table {bs} {ts} {ts′} {ms} {ms′} formed z kt km lt lm s =
-    record {
-      states = rw z at (s .state-count);
-      letters = rw z at (s .letter-count);
-      start-state = rw z at (s .start-state);
-      targets = targets-laid bs formed ts ts′ (omega (arith, lt formed)) (rw z at (s .target-array));
-      marks = marks-laid bs formed ms ms′ (omega (arith, lm formed)) (rw z at (s .mark-array));
-    }
+-- a table of few bytes has few cells
+pub few-cells : (bs : List ℕ) → length bs ≤ 196 → HasCells bs 64
+few-cells bs l formed = let e = table-facts bs formed .exact in omega arith
 
 -- marks as bits, cut to the pairs that count
 cut-by-bits : (t : Table) (q marks : ℕ) (b : ℕ → Bool) → marks < 2 ^ t .pairs → ((i : ℕ) → bit i marks ≡ b (suc i))
@@ -133,19 +96,6 @@ module _ {t : Table} {states letters start : ℕ} {ts ms : List ℕ} (good : IsT
 
   abbrev m : ℕ
   m = t .letters
-
-  pub laid-fit : (k : ℕ) → n * m ≤ k → states * letters ≤ k
-  laid-fit k l = rw (x .states, x .letters) l
-
-  -- with an entry for each state the survey fits
-  pub surveyed : {hs hs′ cs cs′ : List ℕ} {r : Bool} → n ≤ length hs → n ≤ length cs → length hs′ ≡ length hs → length cs′ ≡ length cs
-      → SurveySays states letters ts ms hs hs′ cs cs′ r → Listed n (componentOf (systemOf t)) hs′ × Listed n (countedPairs t) cs′
-  surveyed {hs} {hs′} {cs} {cs′} lh lc kh kc says =
-      let s = rw (x .states, x .letters) at says in
-      let fits : surveyFits n m (length ts) (length ms) (length hs) (length cs) ≡ true = rw (le-leb n maxStates (good .few-states), le-leb m maxLetters (good .few-letters), le-leb (n * m) (length ts) (x .targets .enough), le-leb (n * m) (length ms) (x .marks .enough), le-leb n (length hs) lh, le-leb n (length cs) lc) in
-      let e = s .answer ∙ fits in
-      let sets = listed n (countedIn n m ts ms) cs cs′ (omega arith) (rw e at (s .counted-array)) in
-      (laid-homes t good ts (x .targets) hs hs′ (omega arith) (rw e at (s .home-array)), record { enough = sets .enough; entry = λ q l. sets .entry q l ∙ laid-counted t good ts (x .targets) ms (x .marks) q l })
 
   module _ {hs cs : List ℕ} (hl : Listed n (componentOf (systemOf t)) hs) (cl : Listed n (countedPairs t) cs) where
     key-is : (q : ℕ) → q < n → risingKey q (getD cs q 0) ≡ entryKey t q

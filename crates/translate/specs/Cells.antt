@@ -10,7 +10,6 @@
 --     CodesRoom n m ..         claim: the sizes are in range, and the arrays have an entry for each cell or each state
 --     Written n m f cells      claim: the cells hold what f says of their state and letter
 --     TableCodes t cells       claim: the codes of all cells, and nothing after them
---     HasCells bs k            claim: an array of k entries has room for the cells of the table that the bytes give, if it is well formed
 --     fewCells                 the cells for which small arrays are enough
 --     EncodeSays bs short cells number used start    claim: encoding: the table's refusal, then 7 if `short`; else its codes in the first
 --                              cells, and the key of the first row
@@ -75,9 +74,6 @@ pub record Written (n m : ℕ) (f : ℕ → ℕ → ℕ) (cells : List ℕ) : Ty
 pub record TableCodes (t : Table) (cells : List ℕ) : Type 0 where
   pub size : length cells ≡ t .states * t .letters
   pub entry : (q a : ℕ) → q < t .states → a < t .letters → getD cells (cell (t .letters) q a) 0 ≡ cellCode t q a
-
-abbrev pub HasCells : List ℕ → ℕ → Type 0
-HasCells bs k = WellFormed bs → tableOf bs .states * tableOf bs .letters ≤ k
 
 abbrev pub fewCells : ℕ
 fewCells = 64

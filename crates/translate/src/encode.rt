@@ -9,7 +9,8 @@ use survey::survey_cells;
 ghost use mathlib.Core.Path.{_≡_};
 ghost use mathlib.Core.Bool.{true};
 ghost use lib.ListN.{length};
-ghost use Rattle.translate.specs.Cells.{fewCells, HasCells, EncodeSays};
+ghost use Rattle.survey.specs.Layouts.{HasCells};
+ghost use Rattle.translate.specs.Cells.{fewCells, EncodeSays};
 
 // The cells for which small arrays are enough, and the bytes of a table with so many.
 pub(crate) const FEW_CELLS: usize = 64;

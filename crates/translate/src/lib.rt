@@ -20,7 +20,8 @@ ghost use mathlib.Core.Path.{_≡_};
 ghost use mathlib.Core.Bool.{true};
 ghost use Rattle.rules.specs.Says.{TranslateSays, TranslationAgrees, TranslationMeans, rowArrays};
 ghost use lib.ListN.{length};
-ghost use Rattle.translate.specs.Cells.{fewCells, HasCells};
+ghost use Rattle.survey.specs.Layouts.{HasCells};
+ghost use Rattle.translate.specs.Cells.{fewCells};
 ghost use Rattle.translate.specs.Rows.{refusalOf, rowsKept};
 
 // The refusal or 0, and the number of rows, 0 on a refusal.

@@ -1,13 +1,12 @@
 -- `survey::survey_cells` meets its contract: where all fits there is room, and the components are found before what counts there.
 use borrow.Author.Needs.{needs}
 use mathlib.Core.Path.{refl, sym, _∙_}
+use mathlib.Core.Bool.{true}
 use Prim.Native.Nat.{_*_, _≤_}
 use lib.ListN.{length}
 use borrow.Author.Tests.{not-true, not-false}
-use Rattle.rules.specs.Judges.{paritySystem}
 use Rattle.rules.specs.Limits.{maxStates, maxLetters}
-use Rattle.rules.specs.Systems.{componentOf}
-use Rattle.survey.proofs.Surveying.{listed}
+use Rattle.survey.proofs.Surveying.{counted-at-homes}
 use Rattle.survey.proofs.Promises.{survey-room}
 use Rattle.survey.proofs.survey_cells.Statement.{statement}
 use Rattle.survey.proofs.survey_cells.Tie as tie
@@ -27,12 +26,18 @@ find-homes-requires c κs =
 write-counted-requires : tie.Need-write-counted-requires
 write-counted-requires c κs =
     let r = room (c .before .before .before .before .before .before) in
-    let a = c .before .before .before .before .before .before .before .before .before .before .before .before .args in
-    let h = c .before .before .before .before .find-homes in
-    (record { few-states = r .0; few-letters = r .1; target-room = r .2; mark-room = r .3; homes = listed (a .states) (componentOf (paritySystem (a .states) (a .letters) (a .targets .now))) _ _ (rw (h .kept .1 .1 .1 .0) (r .4)) (h .ensures) }, r .5)
+    (record { few-states = r .0; few-letters = r .1; target-room = r .2; mark-room = r .3; home-room = rw (c .before .before .before .before .find-homes .kept .1 .1 .1 .0) (r .4) }, r .5)
 
 returns-2 : tie.Need-returns-2
-returns-2 c = record { answer = sym (not-false _ (c .before .before .before .before .before .before .before .before .before .if1 .left)) ∙ c .before .before .before .before .before .before .before .before .before .before .survey-fits .ensures; home-array = c .before .before .before .before .before .before .before .find-homes .ensures; counted-array = c .before .before .write-counted .ensures }
+returns-2 c =
+    let e : tie.Else1 = c .before .before .before .before .before .before .before .before .before in
+    let a = e .before .before .before .before .before .before .args in
+    let h = c .before .before .before .before .before .before .before .find-homes in
+    record {
+      answer = sym (not-false _ (e .if1 .left)) ∙ e .before .survey-fits .ensures;
+      home-array = h .ensures;
+      counted-array = counted-at-homes (a .states) (a .letters) (a .targets .now) (a .marks .now) _ (a .homes .now) (λ q. true) (λ p q t. refl) (h .ensures) (a .counted .now) _ (c .before .before .write-counted .ensures);
+    }
 
 pub survey-cells-spec : {M : Type 1} → statement M
 survey-cells-spec =

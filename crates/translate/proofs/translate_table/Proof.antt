@@ -1,7 +1,8 @@
 -- `translate::translate_table` meets its contract: a table of few bytes has few cells.
 use borrow.Author.Needs.{needs}
 use mathlib.Core.Bool.{false≢true}
-use Rattle.translate.proofs.CellCodes.{few-cells, many-cells}
+use Rattle.survey.proofs.Tables.{many-cells}
+use Rattle.translate.proofs.CellCodes.{few-cells}
 use Rattle.translate.proofs.translate_table.Statement.{statement}
 use Rattle.translate.proofs.translate_table.Tie as tie
 

@@ -1,20 +1,20 @@
 -- `survey::counted::pairs_of_state` meets its contract. The invariant: what the letters below a make count is found.
 use borrow.Author.Needs.{needs}
-use mathlib.Core.Path.{refl, _∙_}
+use mathlib.Core.Path.{refl}
 use Prim.Native.Nat.{ℕ, _+_, _-_, _*_, _<_, _≤_}
 use native.Mathlib.Nat.{le-antisymm}
 use native.Mathlib.Omega.{arith}
-use Rattle.rules.specs.Judges.{paritySystem}
 use Rattle.rules.specs.Limits.{noRow}
 use Rattle.rules.proofs.Arrays.{getD-any, cell-within, row-within}
 use Rattle.rules.proofs.Bits.{bit-none}
 use Rattle.survey.specs.Layouts.{requiredIn}
-use Rattle.survey.proofs.Surveying.{home-inside, CountedBelow, counted-more}
+use Rattle.survey.specs.Parts.{staysIn}
+use Rattle.survey.proofs.Surveying.{CountedBelow, counted-more}
 use Rattle.survey.proofs.counted.pairs_of_state.Statement.{statement}
 use Rattle.survey.proofs.counted.pairs_of_state.Tie as tie
 
 abbrev Inv-loop : tie.InvT-loop
-Inv-loop n m targets marks homes q first home found₀ a₀ found a = (a ≤ m) × CountedBelow (paritySystem n m targets) (requiredIn m marks) q a found
+Inv-loop n m targets marks homes q first home found₀ a₀ found a = (a ≤ m) × CountedBelow (staysIn n m targets homes) (requiredIn m marks) q a found
 
 abbrev μ-loop : tie.MeasureT-loop
 μ-loop n m targets marks homes q first home found₀ a₀ found a = m - a
@@ -34,7 +34,7 @@ mul-first : tie.Need-mul-first Inv-loop μ-loop
 mul-first c = let s = c .before .before .before in omega (arith, row-within (s .args .n) (s .args .m) (s .args .q) (s .pre .1), s .pre .0 .target-room)
 
 shared-slice-read-home : tie.Need-shared-slice-read-home Inv-loop μ-loop
-shared-slice-read-home c = let s = c .before .before .before .before in omega (arith, s .pre .1, s .pre .0 .homes .enough)
+shared-slice-read-home c = let s = c .before .before .before .before in omega (arith, s .pre .1, s .pre .0 .home-room)
 
 add-is-home : tie.Need-add-is-home Inv-loop μ-loop
 add-is-home c = let u = here (c) in let r = c .before .before .before .before .before .before .pre .0 .target-room in omega arith
@@ -46,7 +46,7 @@ shared-slice-read-is-home : tie.Need-shared-slice-read-is-home Inv-loop μ-loop
 shared-slice-read-is-home c = let u = here (c .before) in let r = c .before .before .before .before .before .before .before .pre .0 .target-room in omega arith
 
 is-home-requires : tie.Need-is-home-requires Inv-loop μ-loop
-is-home-requires c κs = c .before .before .before .before .before .before .before .pre .0 .homes .enough
+is-home-requires c κs = c .before .before .before .before .before .before .before .pre .0 .home-room
 
 add-kept : tie.Need-add-kept Inv-loop μ-loop
 add-kept c = let u = here (c .before .before) in let r = c .before .before .before .before .before .before .before .before .pre .0 .mark-room in omega arith
@@ -65,8 +65,7 @@ loop-again c =
     let ts = s .args .targets .now in
     let same = getD-any ts (place u) 0 noRow (omega (arith, here u, s .pre .0 .target-room)) in
     let stays = rw same at (c .before .before .is-home .ensures) in
-    let inside = stays ∙ home-inside (paritySystem (s .args .n) (s .args .m) ts) (s .args .homes .now) (s .pre .0 .homes) (s .args .q) (i .a) (s .pre .1) in
-    (omega arith, rw (c .kept .ensures, inside) (counted-more (paritySystem (s .args .n) (s .args .m) ts) (requiredIn (s .args .m) (s .args .marks .now)) (s .args .q) (i .a) (i .found) _ (i .inv .1) (λ j. refl)))
+    (omega arith, rw (c .kept .ensures, stays) (counted-more (staysIn (s .args .n) (s .args .m) ts (s .args .homes .now)) (requiredIn (s .args .m) (s .args .marks .now)) (s .args .q) (i .a) (i .found) _ (i .inv .1) (λ j. refl)))
 
 returns : tie.Need-returns Inv-loop μ-loop
 returns c =

@@ -13,7 +13,8 @@ use Rattle.survey.specs.Layouts.{IsTable, countedPairs}
 use Rattle.tables.specs.Parts.{WellFormed}
 use Rattle.survey.specs.Parts.{Listed}
 use Rattle.survey.proofs.Laying.{is-table}
-use Rattle.translate.proofs.CellCodes.{lay-fault, LaidTable, laid-table, laid-fit, surveyed, first-key, cells-room, codes-written}
+use Rattle.survey.proofs.Tables.{lay-fault, LaidTable, laid-table, laid-fit, surveyed}
+use Rattle.translate.proofs.CellCodes.{first-key, cells-room, codes-written}
 use Rattle.translate.proofs.encode.encode_in.Statement.{statement}
 use Rattle.translate.proofs.encode.encode_in.Tie as tie
 

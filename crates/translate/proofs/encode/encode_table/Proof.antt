@@ -1,6 +1,6 @@
 -- `translate::encode::encode_table` meets its contract.
 use borrow.Author.Needs.{needs}
-use Rattle.translate.proofs.CellCodes.{many-cells}
+use Rattle.survey.proofs.Tables.{many-cells}
 use Rattle.translate.proofs.encode.encode_table.Statement.{statement}
 use Rattle.translate.proofs.encode.encode_table.Tie as tie
 
