@@ -1,8 +1,10 @@
 // The public calls on tables and words for C and Rust: a slice goes out as a pointer and a length, an answer as two numbers.
-// It rests on `components`, `tables`, `survey`, `translate`, `judge`, `judge_rabin` and `listing_text`, passes each call on as it is, and only turns an answer
+// It rests on `components`, `tables`, `survey`, `forecast`, `translate`, `judge`, `judge_rabin` and `listing_text`, passes each call on as it is, and only turns an answer
 // into numbers and a part into its place. Each call keeps the promise of the one that it passes on to, for all bytes, arrays, sizes and places.
 use components::find_reached;
 use components::path_to;
+use forecast::Forecast;
+use forecast::forecast_table;
 use judge::Judged;
 use judge::judge_parity;
 use judge::rest_of;
@@ -14,7 +16,7 @@ use tables::letters_of;
 use translate::Translation;
 use translate::translate_table;
 ghost use mathlib.Core.Path.{_≡_};
-ghost use Rattle.rules.specs.Says.{CheckSays, ComponentsSay, ComponentsMean, TranslateSays, TranslationAgrees, TranslationMeans, RabinSays, RabinMeans, ParitySays, ParityMeans, rowArrays};
+ghost use Rattle.rules.specs.Says.{CheckSays, ComponentsSay, ComponentsMean, TranslateSays, TranslationAgrees, TranslationMeans, ForecastSays, ForecastMeans, RabinSays, RabinMeans, ParitySays, ParityMeans, rowArrays};
 ghost use Rattle.rules.specs.Listings.{ListingSays};
 ghost use Rattle.rules.specs.Tables.{tableOf};
 ghost use Rattle.components.specs.Calls.{ComponentsFound, ReachFound, PathFound};
@@ -103,6 +105,15 @@ pub extern "C" fn duckbullion_path_to(
     ensures { λ r. ⌜ PathFound place (now (parents .entry)) (now (by .entry)) (now (out .entry)) (now (out .exit)) r ⌝ }
 {
     path_to(place, parents, by, out)
+}
+
+// How many rows the translation of a table can have, and how many pairs one record, from the table alone.
+#[no_mangle]
+pub extern "C" fn duckbullion_forecast_table(table: &[u8]) -> Forecast
+    ensures says { λ r. ⌜ ForecastSays (now (table .entry)) (r .number) (r .rows) (r .pairs) ⌝ }
+    ensures means { λ r. ⌜ ForecastMeans (now (table .entry)) (r .number) (r .rows) (r .pairs) ⌝ }
+{
+    forecast_table(table)
 }
 
 // The parity table of a Rabin table, in the lent arrays.

@@ -1,7 +1,7 @@
 -- The forecast bounds the rows and the priorities, for any system, any keeper and any number of pairs and states.
 --     sum-same, sum-zero, sum-add, sum-times, sum-grouped    sums over the numbers below a bound
 --     sum-within, sum-place    numbers in stretches of different lengths: below the whole, and in one stretch at one place only
---     most-above, most-least   the largest over the numbers below a bound
+--     most-above, most-least, most-same    the largest over the numbers below a bound
 --     Alike s f                claim: f is the same for a whole component
 --     reached-alike            a whole component is reached, or nothing of it
 --     over-by-state, most-by-state    a sum, or a maximum, state by state is the one component by component
@@ -44,7 +44,7 @@ use Rattle.rules.proofs.RabinTables.{rising-ordering, rabin-lawful, tab
 use Rattle.rules.proofs.Meanings.{components-are, translation-means}
 
 -- ---- sums
-sum-same : (n : ℕ) (f g : ℕ → ℕ) → ((i : ℕ) → i < n → f i ≡ g i) → sumBelow n f ≡ sumBelow n g
+pub sum-same : (n : ℕ) (f g : ℕ → ℕ) → ((i : ℕ) → i < n → f i ≡ g i) → sumBelow n f ≡ sumBelow n g
 sum-same zero f g h = refl
 sum-same (suc n) f g h = rw (h n (omega arith), sum-same n f g (λ i l. h i (omega arith)))
 
@@ -108,6 +108,10 @@ most-above (suc n) i f l =
 most-least : (n v : ℕ) (f : ℕ → ℕ) → ((i : ℕ) → i < n → f i ≤ v) → mostBelow n f ≤ v
 most-least zero v f h = omega arith
 most-least (suc n) v f h = omega (arith, h n (omega arith), most-least n v f (λ i l. h i (omega arith)))
+
+pub most-same : (n : ℕ) (f g : ℕ → ℕ) → ((i : ℕ) → i < n → f i ≡ g i) → mostBelow n f ≡ mostBelow n g
+most-same zero f g h = refl
+most-same (suc n) f g h = rw (h n (omega arith), most-same n f g (λ i l. h i (omega arith)))
 
 -- ---- component by component
 abbrev pub Alike : System → (ℕ → ℕ) → Type 0

@@ -1,0 +1,2 @@
+-- What the crate's contracts cite beyond the rules.
+pub mod Figures
