@@ -96,6 +96,13 @@ typedef struct duckbullion_translation {
     size_t rows;
 } duckbullion_translation;
 
+/* The forecast of a table: the refusal or 0, and bounds of the table's translation, both 0 on a refusal. */
+typedef struct duckbullion_forecast {
+    uint8_t number;
+    uint32_t rows;
+    uint8_t pairs;
+} duckbullion_forecast;
+
 /* The pieces of a looped word. */
 enum { DUCKBULLION_LEAD_IN = 0, DUCKBULLION_LOOPED = 1 };
 
@@ -158,6 +165,18 @@ size_t duckbullion_path_to(size_t place,
                            const uint16_t *parents, size_t parents_length,
                            const uint8_t *by, size_t by_length,
                            uint8_t *out, size_t out_length);
+
+/*
+ * Forecasts, from the table alone, the size of its translation. A pair counts in a component if a transition that stays
+ * in it has the pair's required bit.
+ * Result: number is the table's refusal, 1 to 6, or 0. On 0 rows is the sum, over the components reachable from the
+ * start, of a component's states times the factorial of the pairs that count in it, 1 to 46,080; pairs is the most
+ * pairs that count in any one of these components, 0 to 6. On a refusal both are 0.
+ * On 0 the translation of the table has at most rows rows, and no priority above 2*pairs + 1. So
+ * duckbullion_translate_table never refuses 8 with a capacity of at least rows. The bound need not be met: where rows
+ * is above the largest capacity, the table may still be translated.
+ */
+duckbullion_forecast duckbullion_forecast_table(const uint8_t *table, size_t table_length);
 
 /*
  * Translates a Rabin table into a parity table, by index appearance records. A row is a source state with a record, an

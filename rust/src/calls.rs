@@ -17,6 +17,20 @@ pub struct Translation {
     pub rows: usize,
 }
 
+/// The forecast of a table: number 0 with bounds of its translation, or a refusal.
+#[repr(C)]
+#[derive(Clone, Copy, Debug, PartialEq, Eq)]
+pub struct Forecast {
+    /// 0 for success, else the number of the refusal.
+    pub number: u8,
+    /// The sum of states times the factorial of the pairs that count, over the components
+    /// reachable from the start; there are never more rows. 0 with a refusal.
+    pub rows: u32,
+    /// The most pairs that count in one of these components; no priority is above twice as many
+    /// plus 1. 0 with a refusal.
+    pub pairs: u8,
+}
+
 /// What a judge says of a looped word.
 #[derive(Clone, Copy, Debug, PartialEq, Eq)]
 pub enum Judged {
@@ -103,6 +117,7 @@ extern "C" {
         out: *mut u8,
         out_len: usize,
     ) -> usize;
+    fn duckbullion_forecast_table(table: *const u8, table_len: usize) -> Forecast;
     fn duckbullion_translate_table(
         table: *const u8,
         table_len: usize,
@@ -278,6 +293,12 @@ pub fn path_to(place: usize, reached: &Reached, out: &mut [u8]) -> usize {
             out_len,
         )
     }
+}
+
+/// Forecasts from a Rabin table alone how many rows and pairs its translation has at most.
+pub fn forecast_table(table: &[u8]) -> Forecast {
+    // SAFETY: the pointer and length are those of one slice, which is only read.
+    unsafe { duckbullion_forecast_table(table.as_ptr(), table.len()) }
 }
 
 /// Translates a Rabin table into the four lent arrays.

@@ -4,7 +4,7 @@
 //! It is what the proved translator is compared with, so it shares no code with it; only
 //! the types of the answers come from `calls`.
 
-use crate::calls::{Judged, ParityTable, Translation};
+use crate::calls::{Forecast, Judged, ParityTable, Translation};
 use std::collections::{BTreeSet, HashMap, HashSet};
 
 /// The target byte of a missing transition in a Rabin table.
@@ -269,6 +269,58 @@ pub fn components(table: &[u8], out: &mut [u8]) -> u8 {
         out[state] = component as u8;
     }
     0
+}
+
+/// The states that can be reached from the start, the start among them, by a plain search.
+fn reachable_of(rabin: &Rabin) -> HashSet<usize> {
+    let mut reachable = HashSet::from([rabin.start]);
+    let mut left = vec![rabin.start];
+    while let Some(state) = left.pop() {
+        for transition in rabin.cells[state].iter().flatten() {
+            if reachable.insert(transition.target) {
+                left.push(transition.target);
+            }
+        }
+    }
+    reachable
+}
+
+/// The factorial of a number: in how many orders so many pairs can stand.
+fn factorial(number: usize) -> usize {
+    (1..=number).product()
+}
+
+/// Forecasts the rows of a table: over the components reachable from the start, the sum of
+/// states times the factorial of the pairs that count, and the most pairs that count in one.
+pub fn forecast_table(table: &[u8]) -> Forecast {
+    let rabin = match read(table) {
+        Ok(rabin) => rabin,
+        Err(number) => {
+            return Forecast {
+                number,
+                rows: 0,
+                pairs: 0,
+            }
+        }
+    };
+    let components = components_of(&rabin);
+    let counted = counted_of(&rabin, &components);
+    let reachable = reachable_of(&rabin);
+    let (mut rows, mut pairs) = (0, 0);
+    for component in BTreeSet::from_iter(&components) {
+        // A component that is reachable is so with all its states, its smallest among them.
+        if reachable.contains(component) {
+            let states = components.iter().filter(|&of| of == component).count();
+            let count = counted[*component].len();
+            rows += states * factorial(count);
+            pairs = pairs.max(count);
+        }
+    }
+    Forecast {
+        number: 0,
+        rows: rows as u32,
+        pairs: pairs as u8,
+    }
 }
 
 /// The record after a transition inside a component: prohibited pairs move to the front.

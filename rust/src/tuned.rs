@@ -1,12 +1,12 @@
-//! The tuned conventional implementation of the translator and the judges, in safe Rust
-//! with the standard library only.
+//! The tuned conventional implementation of the translator, the forecast and the judges, in
+//! safe Rust with the standard library only.
 //!
 //! A record is packed in one number, three bits for each pair; it stays as it is when a
 //! transition prohibits nothing that counts; rows are found by an open-addressing index; the
-//! judges stop at the first pass of the loop that begins where one began. `specialised` goes
-//! beyond and builds on this.
+//! forecast is one walk over the cells that are reached; the judges stop at the first pass of
+//! the loop that begins where one began. `specialised` goes beyond and builds on this.
 
-use crate::calls::{Judged, Translation};
+use crate::calls::{Forecast, Judged, Translation};
 
 /// The byte that stands for a missing transition in a Rabin table.
 pub(crate) const NO_TARGET: u8 = 255;
@@ -155,6 +155,151 @@ pub(crate) fn counted_pairs(rabin: &Rabin, component: &[u64; 64]) -> [u8; 64] {
         counted[q] = counted[component[q].trailing_zeros() as usize & 63];
     }
     counted
+}
+
+/// The factorials of 0 to 6: in how many orders so many pairs can stand.
+const FACTORIALS: [u32; 7] = [1, 1, 2, 6, 24, 120, 720];
+
+/// The upper byte of an open state's number, which lets the required half of a mark through.
+const OPEN: u16 = 0xFF00;
+
+/// The number of a state whose component is closed, and of a missing target: it lets no required
+/// mark through and is lower than no number of an open state.
+const CLOSED: u16 = 0x00FF;
+
+/// A state on the path of the forecast's walk: the cells that are left to read, its own number
+/// and the lowest that it is known to reach, and the marks that it has found inside its
+/// component, the required ones in the upper byte; the lower byte is not used.
+#[derive(Clone, Copy, Default)]
+struct Visit {
+    next: u16,
+    end: u16,
+    number: u8,
+    low: u8,
+    marks: u16,
+}
+
+/// What the forecast's walk knows: the number of each target byte, 0 until it is met; the states
+/// whose components are open, in the order in which they were met; and the closed components'
+/// rows and pairs.
+struct Forecasting {
+    numbers: [u16; 256],
+    open: [u8; 64],
+    opened: usize,
+    rows: u32,
+    pairs: u32,
+}
+
+impl Forecasting {
+    /// Nothing is met; bytes that are no state are closed.
+    #[inline(always)]
+    fn new() -> Forecasting {
+        let mut numbers = [CLOSED; 256];
+        numbers[..64].fill(0);
+        Forecasting {
+            numbers,
+            open: [0; 64],
+            opened: 0,
+            rows: 0,
+            pairs: 0,
+        }
+    }
+
+    /// Meets a state for the first time, with all its cells left to read.
+    #[inline(always)]
+    fn meet(&mut self, q: usize, m: usize) -> Visit {
+        self.open[self.opened & 63] = q as u8;
+        self.opened += 1;
+        self.numbers[q & 63] = OPEN | self.opened as u16;
+        Visit {
+            next: (q * m) as u16,
+            end: (q * m + m) as u16,
+            number: self.opened as u8,
+            low: self.opened as u8,
+            marks: 0,
+        }
+    }
+
+    /// Closes the component of the states from a number on, in which these marks were found.
+    #[inline(always)]
+    fn close(&mut self, number: u8, marks: u16) {
+        let first = number as usize - 1;
+        for &q in &self.open[first & 63..self.opened & 127] {
+            self.numbers[q as usize & 63] = CLOSED;
+        }
+        let count = (marks >> 8).count_ones();
+        self.rows += (self.opened - first) as u32 * FACTORIALS[count as usize];
+        self.pairs = self.pairs.max(count);
+        self.opened = first;
+    }
+}
+
+/// Forecasts the rows of a table.
+pub fn forecast_table(table: &[u8]) -> Forecast {
+    match check_table(table) {
+        Ok(rabin) => walk_components(&rabin),
+        Err(number) => Forecast {
+            number,
+            rows: 0,
+            pairs: 0,
+        },
+    }
+}
+
+/// Walks the components that are reached from the start, in Tarjan's way: each cell is read once,
+/// and the only branch for a cell is whether its target was met before. A target that is open
+/// when its cell is read lies in the same component, so the cell's marks are found inside it.
+fn walk_components(rabin: &Rabin) -> Forecast {
+    let m = rabin.letters;
+    let targets = rabin.targets;
+    let marks = &rabin.marks.as_chunks().0[..targets.len()];
+    let mut known = Forecasting::new();
+    let mut here = known.meet(rabin.start, m);
+    let mut path = [Visit::default(); 64];
+    let mut depth = 0;
+    'visit: loop {
+        let mut cell = here.next as usize;
+        let end = (here.end as usize).min(targets.len());
+        let (mut low, mut found) = (here.low, here.marks);
+        while cell < end {
+            let t = targets[cell] as usize;
+            let number = known.numbers[t];
+            let mark = u16::from_le_bytes(marks[cell]);
+            cell += 1;
+            if number == 0 {
+                path[depth & 63] = Visit {
+                    next: cell as u16,
+                    low,
+                    marks: found,
+                    ..here
+                };
+                depth += 1;
+                here = known.meet(t, m);
+                continue 'visit;
+            }
+            low = low.min(number as u8);
+            found |= mark & number;
+        }
+        let inside = low != here.number;
+        if !inside {
+            known.close(low, found);
+            if depth == 0 {
+                break;
+            }
+        }
+        depth -= 1;
+        here = path[depth & 63];
+        if inside {
+            // the cell that led to this state is inside too
+            here.low = here.low.min(low);
+            here.marks |= found | u16::from_le_bytes(marks[here.next as usize - 1]);
+        }
+    }
+    Forecast {
+        number: 0,
+        rows: known.rows,
+        pairs: known.pairs as u8,
+    }
 }
 
 /// The four lent arrays, cut to the capacity.

@@ -1,8 +1,9 @@
 //! The cards, the traps and the executable conditions of the rules (docs/RULES.md),
 //! run through the translator's C interface and compared with what the rules say.
 
-use duckbullion::calls::{self, Judged, ParityTable, Translation};
+use duckbullion::calls::{self, Forecast, Judged, ParityTable, Translation};
 use duckbullion::plain::{self, Lent};
+use duckbullion::tuned;
 
 /// The table T of docs/RULES.md.
 const T: [u8; 16] = [2, 2, 2, 0, 0, 1, 0, 1, 1, 2, 0, 0, 0, 1, 2, 0];
@@ -162,6 +163,14 @@ fn capacity_and_arrays_are_refused_7() {
     }
 }
 
+/// The forecast of a table, after the plain and the tuned side gave the same.
+fn forecast(table: &[u8]) -> Forecast {
+    let forecast = calls::forecast_table(table);
+    assert_eq!(plain::forecast_table(table), forecast);
+    assert_eq!(tuned::forecast_table(table), forecast);
+    forecast
+}
+
 /// Demands that every call that takes a table refuses it so and writes nothing.
 fn demand_refused(table: &[u8], number: u8) {
     assert_eq!(calls::check_table(table), number);
@@ -174,6 +183,12 @@ fn demand_refused(table: &[u8], number: u8) {
         Translation { number, rows: 0 }
     );
     assert_eq!(lent, nines(4, 2));
+    let refused = Forecast {
+        number,
+        rows: 0,
+        pairs: 0,
+    };
+    assert_eq!(forecast(table), refused);
     assert_eq!(
         calls::judge_rabin(table, &[], &[0]),
         Judged::Refused(number)
@@ -331,15 +346,101 @@ fn a_state_may_return_after_several_passes() {
     assert_eq!(judge(&table, &[], &[0]), Judged::Accepts);
 }
 
-#[test]
-fn full_is_told_by_rows_reached() {
-    // 64 states and 6 pairs that count, but nothing prohibited: one record for each state.
+/// A ring of 64 states and 6 pairs that count, but nothing prohibited: one record for each state.
+fn wide_ring() -> Vec<u8> {
     let mut table = vec![64, 1, 6, 0];
     table.extend((0..64).map(|state| (state + 1) % 64));
     table.extend([0, 63].repeat(64));
+    table
+}
+
+#[test]
+fn full_is_told_by_rows_reached() {
+    let table = wide_ring();
     assert_eq!(parity_of(&table).sources.len(), 64);
     assert!(calls::translate(&table, 64).is_ok());
     assert_eq!(calls::translate(&table, 63), Err(8));
+}
+
+/// Demands a table's forecast, rows and pairs, and how many of these rows are found; the forecast
+/// is capacity enough if it is one, and no priority is above twice the pairs plus 1.
+fn demand_forecast(table: &[u8], rows: u32, pairs: u8, found: usize) {
+    let expected = Forecast {
+        number: 0,
+        rows,
+        pairs,
+    };
+    assert_eq!(forecast(table), expected);
+    let parity = parity_of(table);
+    assert_eq!(parity.sources.len(), found);
+    assert!(parity.priorities.iter().all(|&p| p <= 2 * pairs + 1));
+    if rows <= 4096 {
+        assert_eq!(calls::translate(table, rows as usize), Ok(parity));
+    }
+}
+
+#[test]
+fn forecasts_that_are_reached() {
+    // T: letter 1 leads from 0 to 1 and letter 0 back, so both states are one component. Inside
+    // it are all transitions; 0 by 0 requires pair 2 and 1 by 0 requires pair 1, so both count:
+    // 2 states with 2! = 2 orders each are 4. The listing has 4 rows and a priority 2 * 2 + 1.
+    demand_forecast(&T, 4, 2, 4);
+    assert_eq!(parity_of(&T).priorities.iter().max(), Some(&5));
+    // One state, and letters that each require and prohibit one of 3 pairs: 1 * 3! = 6. A letter
+    // brings its pair to the front, so every order is reached; from position 3 its priority is
+    // 2 * 3 + 1.
+    let table = one_state(3, &[1, 2, 4].map(|bit| Some((bit, bit))));
+    demand_forecast(&table, 6, 3, 6);
+    assert_eq!(parity_of(&table).priorities.iter().max(), Some(&7));
+    // The same with 6 pairs: 1 * 6! = 720.
+    let table = one_state(6, &[1, 2, 4, 8, 16, 32].map(|bit| Some((bit, bit))));
+    demand_forecast(&table, 720, 6, 720);
+    // Without pairs there is one order, the empty one: 1 * 0! = 1. So it is if pairs are declared
+    // and the only transition is missing.
+    demand_forecast(&one_state(0, &[Some((0, 0))]), 1, 0, 1);
+    demand_forecast(&one_state(6, &[None]), 1, 0, 1);
+}
+
+#[test]
+fn forecasts_that_are_far_off() {
+    // Two states in a ring. All 5 pairs count by the transition from 0: 2 * 5! = 240. Only pair 5
+    // is ever moved, so the records are 12345 and 51234, each at both states: 4 rows.
+    let table = [2, 1, 5, 0, 1, 0, 0, 31, 16, 0];
+    demand_forecast(&table, 240, 5, 4);
+    // 64 states with 6 pairs that count: 64 * 720 = 46,080, more than any capacity. There is one
+    // record, so there are 64 rows.
+    demand_forecast(&wide_ring(), 46_080, 6, 64);
+}
+
+#[test]
+fn components_out_of_reach_are_not_forecast() {
+    // State 0 only leads to itself, with pair 1 required. States 1 and 2 lead to each other, with
+    // pair 1 and pair 2 required, and 1 leads to 0 by letter 1.
+    let mut table = [
+        3, 2, 2, 0, 0, 255, 2, 0, 1, 255, 0, 1, 0, 0, 0, 1, 0, 0, 0, 2, 0, 0,
+    ];
+    // From 0 on: 1 * 1! = 1.
+    demand_forecast(&table, 1, 1, 1);
+    // From 1 or 2 on: 2 * 2! + 1 * 1! = 5, and nothing is moved, so there is one row for a state.
+    table[3] = 1;
+    demand_forecast(&table, 5, 2, 3);
+    table[3] = 2;
+    demand_forecast(&table, 5, 2, 3);
+}
+
+#[test]
+fn only_pairs_that_count_are_forecast() {
+    // States 0 and 1 lead to each other by letter 0 and on to 2 by letter 1, and 2 leads to itself.
+    // Of 3 pairs, pair 1 is only prohibited inside, pair 3 is only required from 0 to 2, and pair 2
+    // is required from 1 to 0: 2 * 1! + 1 * 0! = 3, where 3 pairs would give 3 * 3! = 18.
+    let table = [
+        3, 2, 3, 0, 1, 2, 0, 2, 2, 255, 1, 0, 0, 4, 0, 2, 0, 0, 0, 0, 0, 0,
+    ];
+    demand_forecast(&table, 3, 1, 3);
+    // State 0 leads to itself with pairs 1 and 2 required and on to 1 with pair 3, and 1 to itself
+    // with pair 3: 1 * 2! + 1 * 1! = 3. One component has at most 2 pairs, though 3 count somewhere.
+    let table = [2, 2, 3, 0, 0, 1, 1, 255, 0, 3, 0, 4, 0, 4, 0, 0];
+    demand_forecast(&table, 3, 2, 2);
 }
 
 #[test]

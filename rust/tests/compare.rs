@@ -1,13 +1,13 @@
 //! Random tables and words: the translator's C interface against the plain implementation,
-//! every answer and every lent array to its end.
+//! every answer and every lent array to its end; forecasts against the tuned one too.
 //!
 //! SEED (decimal) sets the seed, CASES the number of table cases (the other tests take their
 //! share of it), ONLY the one case to run. Each case depends on the seed and its number alone.
 
-use duckbullion::calls::{self, Judged, ParityTable, Translation};
+use duckbullion::calls::{self, Forecast, Judged, ParityTable, Translation};
 use duckbullion::plain::{self, Lent};
 use duckbullion::random::{self, Random, Word};
-use duckbullion::systems;
+use duckbullion::{systems, tuned};
 use std::collections::BTreeMap;
 use std::fmt::Debug;
 use std::io::Write;
@@ -189,6 +189,59 @@ fn compare_checks(case: &Case, random: &mut Random, tally: &mut Tally) {
     tally.number("find_components", number);
 }
 
+/// Compares the forecast of one table and demands that it holds of what the translator does.
+fn compare_forecast(case: &Case, tally: &mut Tally) {
+    let table = case.table;
+    let forecast = plain::forecast_table(table);
+    case.same("forecast", calls::forecast_table(table), forecast);
+    case.same("tuned forecast", tuned::forecast_table(table), forecast);
+    tally.number("forecast_table", forecast.number);
+
+    let translated = calls::translate(table, plain::MOST_ROWS);
+    let number = translated.as_ref().map_or_else(|&number| number, |_| 0);
+    tally.number("translate_table, capacity 4,096", number);
+    match translated {
+        Ok(parity) => demand_bounds(case, tally, forecast, &parity),
+        Err(8) => {
+            let fits = forecast.rows as usize <= plain::MOST_ROWS;
+            case.same("full within the forecast", fits, false);
+        }
+        Err(number) => {
+            let refused = Forecast {
+                number,
+                rows: 0,
+                pairs: 0,
+            };
+            case.same("refused forecast", forecast, refused);
+        }
+    }
+}
+
+/// Demands that a forecast bounds the rows and the priorities of a translation, and that the rows
+/// found are capacity enough, and the rows forecast too if they are a capacity.
+fn demand_bounds(case: &Case, tally: &mut Tally, forecast: Forecast, parity: &ParityTable) {
+    case.same("number of a forecast", forecast.number, 0);
+    let (found, bound) = (parity.sources.len(), forecast.rows as usize);
+    case.same("rows beyond the forecast", found.saturating_sub(bound), 0);
+    let present = parity.targets.iter().zip(&parity.priorities);
+    let present = present.filter(|(&target, _)| target != plain::NO_ROW);
+    let largest = present.map(|(_, &priority)| priority).max().unwrap_or(0);
+    case.same(
+        "priorities beyond the forecast",
+        largest.saturating_sub(2 * forecast.pairs + 1),
+        0,
+    );
+    let mut demand_enough = |call, capacity| {
+        let translated = calls::translate(case.table, capacity);
+        case.same(call, translated.as_ref(), Ok(parity));
+        tally.number(call, 0);
+    };
+    demand_enough("translate_table, capacity as found", found);
+    if bound <= plain::MOST_ROWS {
+        demand_enough("translate_table, capacity as forecast", bound);
+    }
+}
+
 /// The rows that a table's exploration reaches, if it passes the check and has at most 4,096.
 fn reachable(table: &[u8]) -> Option<usize> {
     let rabin = plain::read(table).ok()?;
@@ -312,6 +365,7 @@ fn tables_and_words() {
             word: None,
         };
         compare_checks(&case, random, &mut tally);
+        compare_forecast(&case, &mut tally);
         let translated = compare_translation(&case, random, &mut tally);
         for _ in 0..2 {
             let word = word_for(random, &table);
@@ -327,6 +381,9 @@ fn tables_and_words() {
     tally.print("Rabin tables, and two words each");
     tally.demand("check_table", 0..=6);
     tally.demand("find_components", 0..=7);
+    tally.demand("forecast_table", 0..=6);
+    tally.demand("translate_table, capacity 4,096", (0..=6).chain([8]));
+    tally.demand("translate_table, capacity as forecast", [0]);
     tally.demand("translate_table", 0..=8);
     tally.demand("judge_rabin", (1..=6).chain(9..=10).chain(12..=14));
     tally.demand("judge_parity, translated", (9..=10).chain(12..=14));
@@ -421,6 +478,15 @@ fn brimful_tables() {
             table: &table,
             word: None,
         };
+        compare_forecast(&case, &mut Tally::default());
+        // 5 states with all orders of 6 pairs, 4 of 5, and single ones: all that is forecast.
+        let forecast = Forecast {
+            number: 0,
+            rows: 5 * 720 + 4 * 120 + singles as u32,
+            pairs: 6,
+        };
+        assert_eq!(calls::forecast_table(&table), forecast);
+        assert_eq!(forecast.rows as usize, rows);
         for capacity in [1, 4095, 4096, 4097] {
             let blank = Lent {
                 targets: vec![7; capacity * 8 + 3],

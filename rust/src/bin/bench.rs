@@ -1,7 +1,7 @@
-//! Times the proved translator and judges against the tuned, the plain and the specialised ones,
-//! in one process.
+//! Times the proved translator, judges and forecast against the tuned, the plain and the
+//! specialised ones, in one process.
 //!
-//! `bench` runs everything; `bench a` to `bench d` run one part, `bench quick` all parts
+//! `bench` runs everything; `bench a` to `bench e` run one part, `bench quick` all parts
 //! shortened. `bench profile-translate`, `bench profile-tiny`, `bench profile-parity` and
 //! `bench profile-rabin` only run the proved side, for a profiler, or the tuned one if the argument
 //! `tuned` follows. The environment variable SEED sets the seed.
@@ -10,7 +10,7 @@ use std::hint::black_box;
 use std::process::exit;
 use std::time::{Duration, Instant};
 
-use duckbullion::calls::{self, Judged, Translation};
+use duckbullion::calls::{self, Forecast, Judged, Translation};
 use duckbullion::random::Random;
 use duckbullion::{plain, specialised, systems, tuned};
 
@@ -22,6 +22,9 @@ type RabinJudge = fn(&[u8], &[u8], &[u8]) -> Judged;
 
 /// A judge of parity tables of any side.
 type ParityJudge = fn(usize, usize, &[u16], &[u8], &[u8], &[u8]) -> Judged;
+
+/// A forecaster of any side.
+type Forecaster = fn(&[u8]) -> Forecast;
 
 /// The translators, in the order of the sides.
 const TRANSLATORS: [Translator; 5] = [
@@ -46,6 +49,13 @@ const PARITY_JUDGES: [ParityJudge; 4] = [
     tuned::judge_parity,
     plain::judge_parity,
     specialised::judge_parity,
+];
+
+/// The forecasters, in the order of the sides.
+const FORECASTERS: [Forecaster; 3] = [
+    calls::forecast_table,
+    tuned::forecast_table,
+    plain::forecast_table,
 ];
 
 /// The sides' names.
@@ -74,6 +84,9 @@ const JUDGES: [usize; 4] = [PROVED, TUNED, PLAIN, SPECIAL];
 
 /// The sides that judge where the plain one would take too long.
 const FAST_JUDGES: [usize; 3] = [PROVED, TUNED, SPECIAL];
+
+/// The sides that forecast.
+const FORECASTS: [usize; 3] = [PROVED, TUNED, PLAIN];
 
 /// The smallest times of the sides in nanoseconds; those not measured are no numbers.
 type Times = [f64; 5];
@@ -1270,6 +1283,98 @@ fn part_d(random: &mut Random, effort: Effort) {
     println!("\n    summary (d): largest p/tuned {largest:.2}");
 }
 
+/// Draws a table of 64 states and 6 pairs on a system of some shape, with marks by cell.
+fn draw_on_system(
+    random: &mut Random,
+    shape: systems::Shape,
+    letters: usize,
+    percent: usize,
+) -> Vec<u8> {
+    let targets = systems::targets(random, shape, 64, letters);
+    let mut table = vec![64, letters as u8, 6, 0];
+    let mut marks = Vec::new();
+    for target in targets {
+        if target == systems::NONE {
+            table.push(plain::NO_STATE);
+            marks.extend([0, 0]);
+        } else {
+            table.push(target as u8);
+            marks.extend([(); 2].map(|_| draw_marks(random, 6, percent)));
+        }
+    }
+    table.extend(marks);
+    table
+}
+
+/// Times the forecasts of tables that take turns, comparing every round; gives the rows forecast
+/// and the times, for a table on the average.
+fn measure_forecasts(tables: &[Vec<u8>], effort: Effort) -> (usize, Times) {
+    let answers: Vec<Forecast> = tables
+        .iter()
+        .map(|table| FORECASTERS[PROVED](table))
+        .collect();
+    let mut last = answers.clone();
+    let times = interleave(&FORECASTS, effort.rounds, effort.case, |side, repeats| {
+        let before = Instant::now();
+        for _ in 0..repeats {
+            for (table, answer) in tables.iter().zip(&mut last) {
+                *answer = FORECASTERS[side](black_box(table));
+            }
+        }
+        let taken = before.elapsed();
+        compare(side, last == answers, "the forecasts of a round");
+        taken
+    });
+    let rows: usize = answers.iter().map(|answer| answer.rows as usize).sum();
+    let average = (rows + tables.len() / 2) / tables.len();
+    (average, times.map(|time| time / tables.len() as f64))
+}
+
+/// Measures, prints and notes the forecasts of tables of one kind.
+fn bench_forecasts(case: &str, tables: &[Vec<u8>], effort: Effort, range: &mut Range) {
+    let (rows, times) = measure_forecasts(tables, effort);
+    range.note(against(&times, TUNED), case);
+    println!(
+        "    {case:<22} {:>7} {rows:>7} {:>9.0} {:>9.0} {:>9.0} {:>8}",
+        tables[0][1],
+        times[PROVED],
+        times[TUNED],
+        times[PLAIN],
+        ratio(&times, TUNED)
+    );
+}
+
+/// Part (e): forecasts of tables on systems of every shape, and of T.
+fn part_e(random: &mut Random, effort: Effort) {
+    println!("\n(e) forecasts: nanoseconds for a call; 64 states, 6 pairs, marks by cell, start 0; {IN_TURN} tables");
+    println!("    of each kind take turns, rows (as forecast) and times are averages; tuned: Tarjan's walk");
+    println!("    from the start in one pass\n");
+    println!(
+        "    {:<22} {:>7} {:>7} {:>9} {:>9} {:>9} {:>8}",
+        "case", "letters", "rows", "proved", "tuned", "plain", "p/tuned"
+    );
+    let mut ranges = [(); 2].map(|_| Range::default());
+    for (letters, range) in [2, 16].into_iter().zip(&mut ranges) {
+        for shape in systems::SHAPES {
+            for percent in [20, 1] {
+                let tables: Vec<Vec<u8>> = (0..IN_TURN)
+                    .map(|_| draw_on_system(random, shape, letters, percent))
+                    .collect();
+                let case = format!("{shape:?}, marks {:.2}", percent as f64 / 100.0);
+                bench_forecasts(&case, &tables, effort, range);
+            }
+        }
+    }
+    let mut tiny = Range::default();
+    bench_forecasts("T", &[CARD.to_vec()], effort, &mut tiny);
+    println!(
+        "\n    summary (e): largest p/tuned with 2 letters {}; with 16 letters {}; of a tiny table {}",
+        ranges[0].largest(),
+        ranges[1].largest(),
+        tiny.largest()
+    );
+}
+
 /// Reads the arguments of the command line and runs the parts they name.
 fn main() {
     let words: Vec<String> = std::env::args().skip(1).collect();
@@ -1278,6 +1383,7 @@ fn main() {
         "b",
         "c",
         "d",
+        "e",
         "quick",
         "profile-translate",
         "profile-tiny",
@@ -1348,5 +1454,8 @@ fn main() {
     }
     if chosen("d") {
         part_d(&mut Random::of_case(seed, 4), effort);
+    }
+    if chosen("e") {
+        part_e(&mut Random::of_case(seed, 5), effort);
     }
 }
