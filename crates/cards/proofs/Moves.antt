@@ -10,8 +10,8 @@ use Prim.Native.Nat.{ℕ, zero, suc, _+_, _≤_, _<_}
 use native.Mathlib.Omega.{arith}
 use lib.Dec.{eqb}
 use lib.ListN.{length}
-use borrow.Author.Tests.{eqb-true, eqb-false, not-true}
-use Rattle.rules.specs.Basics.{isIn, occurs, keep, tabulate}
+use borrow.Author.Tests.{eqb-false, not-true}
+use Rattle.rules.specs.Basics.{isIn, occurs, tabulate}
 use Rattle.rules.specs.Records.{asTheyStood, moved}
 use Rattle.rules.proofs.Bools.{by, clash}
 use Rattle.rules.proofs.Appearance.{kept-length, kept-occurs, keep-free, keep-hold, occurs-none, none-occurs, moved-length, moved-occurs, moved-same}

@@ -4,8 +4,8 @@
 --     laid-fit                    there is room for the cells that are laid out where there is for the table's
 --     surveyed                    what a survey of them leaves
 --     surveyed-reached            what a survey of those that the start reaches leaves
-use mathlib.Core.Path.{_≡_, refl, ap, ap₂, _∙_}
-use mathlib.Core.Bool.{Bool, true, _&&_}
+use mathlib.Core.Path.{_≡_, refl, ap₂, _∙_}
+use mathlib.Core.Bool.{Bool, true}
 use mathlib.Core.List.{List}
 use Prim.Native.Nat.{ℕ, zero, suc, _*_, _≤_}
 use native.Mathlib.Omega.{arith}

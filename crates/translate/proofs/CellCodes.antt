@@ -15,11 +15,11 @@ use lib.Dec.{eqb, leb}
 use lib.ListN.{length, getD, take}
 use lib.Pow.{pow-mono}
 use lib.Seq.{getD-take, length-take-le}
-use borrow.Author.Tests.{ne-eqb, le-leb, leb-false, lt-ltb, le-ltb}
-use Rattle.rules.specs.Basics.{firstOf, keep, tabulate, bit, asBits}
-use Rattle.rules.specs.Limits.{maxStates, maxLetters, maxPairs, noState, noRow}
+use borrow.Author.Tests.{ne-eqb, le-leb, leb-false, lt-ltb}
+use Rattle.rules.specs.Basics.{keep, tabulate, bit, asBits}
+use Rattle.rules.specs.Limits.{maxPairs, noState, noRow}
 use Rattle.rules.specs.Systems.{isInside, componentOf, cell}
-use Rattle.rules.specs.Tables.{Table, tableOf, tableFault, systemOf, targetOf, prohibitedByte, requiredByte, prohibits, requires, counts, rising}
+use Rattle.rules.specs.Tables.{Table, systemOf, targetOf, prohibitedByte, requiredByte, prohibits, requires, counts, rising}
 use Rattle.rules.proofs.Arrays.{cell-within}
 use Rattle.rules.proofs.Bits.{bit-and, bit-over, as-bits-below, as-bits-at, bits-are}
 use Rattle.rules.proofs.Bools.{by}

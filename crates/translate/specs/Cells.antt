@@ -27,7 +27,6 @@ use Rattle.rules.specs.Systems.{isInside, cell}
 use Rattle.rules.specs.Rows.{row}
 use Rattle.rules.specs.Tables.{Table, tableOf, tableFault, systemOf, targetOf, prohibits, requires, counts, rising}
 use Rattle.records.specs.Packed.{limit, isMarked, packed}
-use Rattle.tables.specs.Parts.{WellFormed}
 use Rattle.explore.specs.declared.Task.{Task}
 use Rattle.explore.specs.declared.Rule.the-variants.{Pairs}
 use Rattle.explore.specs.Cells.{keyOf, crossingCode, insideCode}

@@ -1,6 +1,5 @@
 -- `forecast::rows_at` meets its contract.
 use borrow.Author.Needs.{needs}
-use mathlib.Core.Path.{_∙_}
 use borrow.Author.Tests.{lt-ltb, le-ltb}
 use Rattle.forecast.proofs.rows_at.Statement.{statement}
 use Rattle.forecast.proofs.rows_at.Tie as tie

@@ -1,7 +1,7 @@
 -- `survey::survey_reached` meets its contract: where all fits there is room, and the components of what is reached are found before what counts there.
 use borrow.Author.Needs.{needs}
 use mathlib.Core.Path.{_≡_, refl, sym, ap, _∙_}
-use mathlib.Core.Bool.{Bool, true, _&&_}
+use mathlib.Core.Bool.{Bool, _&&_}
 use Prim.Native.Nat.{_*_, _<_, _≤_}
 use lib.Dec.{ltb}
 use lib.ListN.{length}

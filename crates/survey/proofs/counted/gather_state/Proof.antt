@@ -1,6 +1,5 @@
 -- `survey::counted::gather_state` meets its contract: a state that is left out, or whose home has all already, adds nothing.
 use borrow.Author.Needs.{needs}
-use mathlib.Core.Path.{_≡_}
 use Prim.Native.Nat.{ℕ, _<_}
 use native.Mathlib.Omega.{arith}
 use lib.ListN.{length, getD}

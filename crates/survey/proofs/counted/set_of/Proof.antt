@@ -1,5 +1,4 @@
 -- `survey::counted::set_of` meets its contract.
-use borrow.Author.Needs.{needs}
 use native.Mathlib.Omega.{arith}
 use borrow.Author.Tests.{lt-ltb, le-ltb}
 use Rattle.survey.proofs.counted.set_of.Statement.{statement}
