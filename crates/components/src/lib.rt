@@ -1,7 +1,8 @@
 // The components of a transition system in time linear in its cells, and all that a state reaches with a path to each, for any number of
 // states below 65,535. It rests on `rules` and knows a system only as an array of targets: the cell of state q and letter a is number
 // q · m + a, and a target that is no state means that there is no transition. `find_components`, `find_components_from`, `find_reached` and
-// `path_to` keep the promises `ComponentsFound`, `ComponentsReached`, `ReachFound` and `PathFound` of this crate, for all sizes and arrays; what does not fit is answered as such.
+// `path_to` keep the promises `ComponentsFound`, `ComponentsReached`, `ReachFound` and `PathFound` of this crate, for all sizes and arrays; what
+// does not fit is answered as such.
 mod cells;
 mod paths;
 mod reach;

@@ -1,6 +1,6 @@
 // The forecast of a Rabin table: how many rows its translation can have, and how many pairs one record, from the table alone.
-// It rests on `survey`, which lays a table out and says which states the start reaches and what counts there. `forecast_table` keeps the promises
-// `ForecastSays` and `ForecastMeans` of the rules, for all bytes.
+// It rests on `survey`, which lays a table out and says which states the start reaches and what counts there. `forecast_table` keeps the
+// promises `ForecastSays` and `ForecastMeans` of the rules, for all bytes.
 use rules::limit::MAX_LETTERS;
 use rules::limit::MAX_STATES;
 use survey::lay_table;
@@ -24,7 +24,7 @@ pub struct Forecast {
     pub pairs: u8,
 }
 
-// How many orders so many pairs have, from none to six.
+// The orders of no pair to six pairs.
 const ORDERS: [u32; 7] = [1, 1, 2, 6, 24, 120, 720];
 
 // How many orders so many pairs have.
@@ -35,7 +35,7 @@ fn orders_of(pairs: u32) -> u32
     ORDERS[pairs as usize]
 }
 
-// What a state adds to the rows: an order of its pairs each, and nothing where it is not reached and has no home.
+// What a state adds to the rows: one for each order of its pairs, and nothing where its home is no state, since it is not reached.
 fn rows_at(home: u16, n: usize, pairs: u32) -> u32
     requires { ⌜ pairs ≤ maxPairs ⌝ }
     ensures { λ r. ⌜ r ≡ when (ltb home n) (factorial pairs) ⌝ }
@@ -47,6 +47,7 @@ fn rows_at(home: u16, n: usize, pairs: u32) -> u32
     }
 }
 
+// The larger of two numbers.
 fn larger(a: u32, b: u32) -> u32
     ensures { λ r. ⌜ r ≡ max a b ⌝ }
 {
