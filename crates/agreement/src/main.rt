@@ -19,7 +19,7 @@ const ROWS: usize = 4;
 const CELLS: usize = 8;
 
 // What the translator gives, and the answers of both tables.
-#[derive(Drop)]
+#[derive(Clone, Copy)]
 struct Verdicts {
     number: u8,
     rows: usize,

@@ -21,7 +21,7 @@ pub(crate) const ROWS: usize = 4096;
 pub(crate) const CELLS: usize = 65536;
 
 // What both tables answer.
-#[derive(Drop)]
+#[derive(Clone, Copy)]
 pub(crate) struct Verdicts {
     pub rabin: Judged,
     pub parity: Judged,

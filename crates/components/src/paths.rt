@@ -14,7 +14,7 @@ use crate::cells::target_at;
 pub(crate) const DONE: u16 = 65535;
 
 // How many states are open, how many parts they form, and how many of them wait.
-#[derive(Drop)]
+#[derive(Clone, Copy)]
 pub(crate) struct Heights {
     open: usize,
     parts: usize,
@@ -22,7 +22,7 @@ pub(crate) struct Heights {
 }
 
 // The letter at which reading stops, and the parts that are left.
-#[derive(Drop)]
+#[derive(Clone, Copy)]
 struct Reading {
     letter: usize,
     parts: usize,

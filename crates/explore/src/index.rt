@@ -4,7 +4,7 @@ ghost use Rattle.rules.specs.Limits.{max_rows};
 ghost use Rattle.explore.specs.Index.{slot_of, Linked, Finds, KeyIndexed};
 
 // The place of a key, or that it is absent.
-#[derive(Drop)]
+#[derive(Clone, Copy)]
 pub(crate) enum Found {
     At(usize),
     Absent,

@@ -14,14 +14,14 @@ ghost use Rattle.explore.specs.Exploring.{ExploreSays, lent};
 use rules::limit::MAX_ROWS;
 
 // What marks do to a memory.
-#[derive(Drop)]
+#[derive(Clone, Copy)]
 pub enum Rule {
     // Index appearance records: the prohibited pairs move to the front.
     Pairs,
 }
 
 // What is explored: the rule, the letters, and the key of the first row.
-#[derive(Drop)]
+#[derive(Clone, Copy)]
 pub struct Task {
     pub rule: Rule,
     pub letters: usize,
@@ -29,7 +29,7 @@ pub struct Task {
 }
 
 // How many rows there are; or more than the capacity; or the codes lead outside the cells, a size is out of range or an array too short.
-#[derive(Drop)]
+#[derive(Clone, Copy)]
 pub enum Explored {
     Rows(usize),
     Full,

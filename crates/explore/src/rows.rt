@@ -24,7 +24,7 @@ const FEW_ROWS: usize = FEW_LIMIT + MAX_LETTERS as usize;
 const SLOTS: usize = 16384;
 
 // How far an exploration has come: the rows below `row` are read, and `known` rows are known.
-#[derive(Drop)]
+#[derive(Clone, Copy)]
 pub(crate) struct Progress {
     pub row: usize,
     pub known: usize,

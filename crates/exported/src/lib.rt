@@ -20,7 +20,7 @@ use translate::{Translation, translate_table};
 
 // A judge's answer as two numbers (RULES, "Judges"): 0 accepts, 1 rejects, 2 stops with the letters read, 3 refused with the number.
 #[repr(C)]
-#[derive(Drop)]
+#[derive(Clone, Copy)]
 pub struct Answer {
     pub kind: u32,
     pub value: u32,
@@ -28,7 +28,7 @@ pub struct Answer {
 
 // Where the rest of a piece lies: in the lead-in (0) or in the loop (1), from which letter of that piece on, and how many letters it has.
 #[repr(C)]
-#[derive(Drop)]
+#[derive(Clone, Copy)]
 pub struct Rest {
     pub piece: usize,
     pub start: usize,

@@ -14,7 +14,7 @@ use survey::{lay_table, survey_reached};
 
 // The refusal or 0, and the figures, 0 on a refusal: the most rows, and the most pairs that count in one component.
 #[repr(C)]
-#[derive(Drop)]
+#[derive(Clone, Copy)]
 pub struct Forecast {
     pub number: u8,
     pub rows: u32,
@@ -52,7 +52,7 @@ fn larger(a: u32, b: u32) -> u32
 }
 
 // The rows that are possible, and the most pairs.
-#[derive(Drop)]
+#[derive(Clone, Copy)]
 struct Figures {
     rows: u32,
     pairs: u32,

@@ -13,7 +13,7 @@ ghost use Rattle.judge.specs.Judgements.{answer_of};
 ghost use Rattle.judge.specs.Parts.{rest_at};
 
 // A judge's answer to a looped word, for both kinds of table: the letters read before a missing transition, or a refusal's number.
-#[derive(Drop)]
+#[derive(Clone, Copy)]
 pub enum Judged {
     Accepts,
     Rejects,

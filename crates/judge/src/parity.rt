@@ -13,7 +13,7 @@ use rules::limit::{MAX_LETTERS, MAX_ROWS, NO_ROW};
 use rules::refusal;
 
 // Where reading a piece led, or no row where it met a missing transition; the letters read; the largest priority on the way.
-#[derive(Drop)]
+#[derive(Clone, Copy)]
 struct Reading {
     place: usize,
     read: usize,

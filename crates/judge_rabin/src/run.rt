@@ -15,7 +15,7 @@ use judge::Judged;
 
 // Where reading a piece led, or no state where it met a missing transition; the letters read; of a piece read to its end the pairs
 // prohibited and the pairs required on the way.
-#[derive(Drop)]
+#[derive(Clone, Copy)]
 struct Reading {
     place: usize,
     read: usize,

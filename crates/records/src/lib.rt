@@ -7,15 +7,15 @@ ghost use Rattle.rules.specs.Records.{as_they_stood, moved, priority, decimal};
 ghost use Rattle.records.specs.Packed.{limit, base, is_pair, is_marked, marks_by, packed, places, pairs_in};
 
 // The number of a pair, from 1; 0 is no pair.
-#[derive(Drop)]
+#[derive(Clone, Copy)]
 pub struct PairNumber(pub u8);
 
 // A position in a record, from 1; 0 is no position.
-#[derive(Drop)]
+#[derive(Clone, Copy)]
 pub struct Position(pub u8);
 
 // An ordering of pairs: the pair at position p in the three bits from 3 · (p − 1) on.
-#[derive(Drop)]
+#[derive(Clone, Copy)]
 pub struct Record {
     pub code: u32,
 }

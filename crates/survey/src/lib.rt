@@ -37,7 +37,7 @@ pub fn find_components(table: &[u8], out: &mut [u8]) -> u8
 }
 
 // The refusal or 0, and the sizes and the start of the table that is laid out, all 0 on a refusal.
-#[derive(Drop)]
+#[derive(Clone, Copy)]
 pub struct Laid {
     pub number: u8,
     pub letters: u8,

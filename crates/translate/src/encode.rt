@@ -17,7 +17,7 @@ pub(crate) const FEW_BYTES: usize = HEADER_SIZE + 3 * FEW_CELLS;
 pub(crate) const MAX_CELLS: usize = MAX_STATES as usize * MAX_LETTERS as usize;
 
 // The refusal or 0; where there is none, the number of the table's cells and the key of the first row.
-#[derive(Drop)]
+#[derive(Clone, Copy)]
 pub(crate) struct Encoded {
     pub number: u8,
     pub used: usize,

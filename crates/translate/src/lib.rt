@@ -18,7 +18,7 @@ ghost use Rattle.translate.specs.Rows.{refusal_of, rows_kept};
 
 // The refusal or 0, and the number of rows, 0 on a refusal.
 #[repr(C)]
-#[derive(Drop)]
+#[derive(Clone, Copy)]
 pub struct Translation {
     pub number: u8,
     pub rows: usize,
