@@ -23,18 +23,18 @@ unfit n m t h =
 small : (n m : ℕ) → leb done_number n || leb done_number m ≡ false → (n < done_number) × (m < done_number)
 small n m h = let r = or_none (leb done_number n) (leb done_number m) h in (leb-false done_number n r.0, leb-false done_number m r.1)
 
-returns : tie.Need-returns
-returns c = let a = c.before.args in unfit a.states a.letters a.cells c.if1.true
+returns : tie.Need-returns-then-states-letters
+returns c = let a = c.args in unfit a.states a.letters a.cells c.if-states-letters.true
 
-mul-result : tie.Need-overflow-mul-result
+mul-result : tie.Need-overflow_mul-result
 mul-result c =
-    let l = small c.before.args.states c.before.args.letters c.if1.false in
+    let l = small c.args.states c.args.letters c.if-states-letters.false in
     omega (arith, mul-le-mul (le_of_lt l.0) (le_of_lt l.1))
 
-returns_2 : tie.Need-returns-2
+returns_2 : tie.Need-returns
 returns_2 c =
-    let l = small c.before.args.states c.before.args.letters c.if1.false in
-    let a = c.before.args in
+    let l = small c.args.states c.args.letters c.if-states-letters.false in
+    let a = c.args in
     rw (lt-ltb a.states done_number l.0, lt-ltb a.letters done_number l.1)
 
 pub cells_fit_spec : {M : Type 1} → statement M

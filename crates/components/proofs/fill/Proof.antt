@@ -7,22 +7,21 @@ use Rattle.components.proofs.Stores.{filled_none, filled_more}
 use Rattle.components.proofs.fill.Statement.{statement}
 use Rattle.components.proofs.fill.Tie as tie
 
-abbrev invariant-loop : tie.invariant-loop
+abbrev invariant-loop : tie.invariant-loop-q
 invariant-loop n value array₀ q₀ array q = (q ≤ n) × FilledWith q value array₀ array
 
-abbrev decreases-loop : tie.decreases-loop
+abbrev decreases-loop : tie.decreases-loop-q
 decreases-loop n value array₀ q₀ array q = n - q
 
-loop-again : tie.Need-loop-preserved invariant-loop decreases-loop
+loop-again : tie.Need-loop-q-preserved invariant-loop decreases-loop
 loop-again c =
-    let i = c.before.loop in
+    let i = c.loop-q in
     (omega arith, filled_more i.q _ _ _ (omega (arith, i.invariant.1.size)) i.invariant.1)
 
 returns : tie.Need-returns invariant-loop decreases-loop
-returns c = rw (le_antisymm c.before.loop.invariant.0 c.loop-test.false) at c.before.loop.invariant.1
+returns c = rw (le_antisymm c.loop-q.invariant.0 c.loop-q-test.false) at c.loop-q.invariant.1
 
 pub fill_spec : {M : Type 1} → statement M
 fill_spec =
     tie.close
-    (tie.spec invariant-loop decreases-loop (λ c. (omega arith, filled_none _ _)) (λ c. omega arith) (λ c. omega (arith, c.before.loop.invariant.1.size))
-    (λ c. omega arith) (λ c. omega arith) loop-again (λ c. c.before.loop.invariant.1.size) returns)
+    (tie.spec invariant-loop decreases-loop (λ c. (omega arith, filled_none _ _)) (λ c. omega arith) (λ c. omega (arith, c.loop-q.invariant.1.size)) (λ c. omega arith) (λ c. omega arith) loop-again (λ c. c.loop-q.invariant.1.size) returns)

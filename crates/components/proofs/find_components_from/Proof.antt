@@ -20,12 +20,12 @@ use Rattle.components.proofs.find_components_from.Statement.{statement}
 use Rattle.components.proofs.find_components_from.Tie as tie
 
 -- where all fits
-module _ (c : tie.Else1) where
+module _ (c : tie.Else-not-fits-from) where
   abbrev start : tie.Start
   start = c.before.before.before.before.before
 
   fit : let a = start.args in components_fit a.states a.letters (length a.targets.now) (length a.work.now) (length a.out.now) && ltb a.from a.states ≡ true
-  fit = let a = start.args in ap (λ (b : Bool). b && ltb a.from a.states) (sym c.before.components-fit.ensures) ∙ not-false _ c.if1.false
+  fit = let a = start.args in ap (λ (b : Bool). b && ltb a.from a.states) (sym c.components_fit-fits.ensures) ∙ c.if-not-fits-from.false
 
   room : let a = start.args in SearchRoom (parity_system a.states a.letters a.targets.now) a.targets.now a.work.now × (a.states ≤ length a.out.now) × (a.from < a.states)
   room =
@@ -34,38 +34,38 @@ module _ (c : tie.Else1) where
       let r = components_room a.states a.letters a.targets.now a.work.now a.out.now p.0 in
       (r.0, r.1, ltb-true a.from a.states p.1)
 
-returns : tie.Need-returns
-returns c = record { answer = sym (not-true _ c.if1.true) ∙ ap (λ (b : Bool). b && ltb c.before.before.before.before.before.args.from c.before.before.before.before.before.args.states) c.before.components-fit.ensures; array = refl }
+returns : tie.Need-returns-then-not-fits-from
+returns c = record { answer = sym (c.if-not-fits-from.true) ∙ ap (λ (b : Bool). b && ltb c.args.from c.args.states) c.components_fit-fits.ensures; array = refl }
 
 -- both arrays are written
-module _ (c : tie.After-fill2) where
+module _ (c : tie.After-fill-2) where
   abbrev first : tie.After-fill
   first = c.before.before.before.before
 
-  abbrev else : tie.Else1
+  abbrev else : tie.Else-not-fits-from
   else = first.before.before
 
 search-requires : tie.Need-search-requires
 search-requires c κs =
-    let w : tie.After-fill2 = c.before.before.before.before in
+    let w : tie.After-fill-2 = c.before.before.before.before in
     let f = (first w).fill.ensures in
     let r = room (else w) in
-    (room_kept _ _ _ _ r.0 f.size, rw w.fill2.ensures.size r.1, searched_none _ _ _ f.done, r.2)
+    (room_kept _ _ _ _ r.0 f.size, rw w.fill-2.ensures.size r.1, searched_none _ _ _ f.done, r.2)
 
-same_length : tie.Need-same-length
+same_length : tie.Need-shape_of-work
 same_length c =
-    let w : tie.After-fill2 = c.before.before.before.before.before.before.before.before.before in
-    c.before.before.before.before.search.auto.1.1.1.1.0 ∙ (first w).fill.ensures.size
+    let w : tie.After-fill-2 = c.before.before.before.before.before.before.before.before.before in
+    c.search.auto.work ∙ (first w).fill.ensures.size
 
-same_length_2 : tie.Need-same-length-2
-same_length_2 c = c.before.before.before.before.search.auto.1.1.1.1.1.0 ∙ c.before.before.before.before.before.before.before.before.before.fill2.ensures.size
+same_length_2 : tie.Need-shape_of-out
+same_length_2 c = c.search.auto.outs ∙ c.fill-2.ensures.size
 
-returns_2 : tie.Need-returns-2
+returns_2 : tie.Need-returns
 returns_2 c =
-    let x = c.before.before.before.before.search.ensures in
-    let w : tie.After-fill2 = c.before.before.before.before.before.before.before.before.before in
+    let x = c.search.ensures in
+    let w : tie.After-fill-2 = c.before.before.before.before.before.before.before.before.before in
     let f = (first w).fill.ensures in
-    let o = w.fill2.ensures in
+    let o = w.fill-2.ensures in
     let r = room (else w) in
     record {
       answer = sym (fit (else w));
@@ -75,5 +75,4 @@ returns_2 c =
 pub find_components_from_spec : {M : Type 1} → statement M
 find_components_from_spec =
     tie.close
-    (tie.spec (λ c κs. search rules) returns (λ c. omega (arith, (room c).0.small)) (λ c κs. (room c.before).0.work_room) (λ c. omega (arith, (room c.before.before.before.before).0.small))
-    (λ c κs. (room c.before.before.before.before.before).1) search-requires same_length same_length_2 returns_2)
+    (tie.spec (λ c κs. search rules) returns (λ c. omega (arith, (room c).0.small)) (λ c κs. (room c.before).0.work_room) (λ c. omega (arith, (room c.before.before.before.before).0.small)) (λ c κs. (room c.before.before.before.before.before).1) search-requires same_length same_length_2 returns_2)

@@ -19,20 +19,20 @@ use Rattle.components.proofs.Fits.{reach_room}
 use Rattle.components.proofs.find_reached.Statement.{statement}
 use Rattle.components.proofs.find_reached.Tie as tie
 
-abbrev invariant-loop : tie.invariant-loop
+abbrev invariant-loop : tie.invariant-loop-k
 invariant-loop states letters targets from numbers₀ queue₀ parents₀ by₀ fits met₀ k₀ numbers queue parents by met k =
     (k ≤ met) × Reaching (parity_system states letters targets) from met k 0 targets numbers₀ numbers queue₀ queue parents₀ parents by₀ by
 
-abbrev decreases-loop : tie.decreases-loop
+abbrev decreases-loop : tie.decreases-loop-k
 decreases-loop states letters targets from numbers₀ queue₀ parents₀ by₀ fits met₀ k₀ numbers queue parents by met k = states - k
 
 -- where all fits
-module _ (c : tie.Else1 invariant-loop decreases-loop) where
+module _ (c : tie.Else-not-fits invariant-loop decreases-loop) where
   abbrev start : tie.Start invariant-loop decreases-loop
   start = c.before.before.before.before.before.before.before
 
   fit : let a = start.args in reach_fits a.states a.letters a.from (length a.targets.now) (length a.numbers.now) (length a.queue.now) (length a.parents.now) (length a.by.now) ≡ true
-  fit = sym c.before.reach-fits.ensures ∙ not-false _ c.if1.false
+  fit = sym c.reach_fits-fits.ensures ∙ c.if-not-fits.false
 
   room : let a = start.args in
       ReachRoom (parity_system a.states a.letters a.targets.now) a.targets.now a.numbers.now a.queue.now a.parents.now a.by.now × (a.from < a.states)
@@ -40,34 +40,34 @@ module _ (c : tie.Else1 invariant-loop decreases-loop) where
 
 -- the numbers are cleared
 module _ (c : tie.After-fill invariant-loop decreases-loop) where
-  abbrev else : tie.Else1 invariant-loop decreases-loop
+  abbrev else : tie.Else-not-fits invariant-loop decreases-loop
   else = c.before.before
 
   abbrev cleared : List ℕ
-  cleared = c.fill.new.1.1.0
+  cleared = c.fill.new.array
 
   begun : let a = (start else).args in
       Untouched a.states 1 a.numbers.now (set cleared a.from 1) a.queue.now (set a.queue.now 0 a.from) a.parents.now a.parents.now a.by.now a.by.now
   begun = let a = (start else).args in untouched_start cleared a.queue.now a.parents.now a.by.now a.from c.fill.ensures (room else).1
 
-returns : tie.Need-returns invariant-loop decreases-loop
+returns : tie.Need-returns-then-not-fits invariant-loop decreases-loop
 returns c =
-    let t = sym c.before.reach-fits.ensures ∙ not-true _ c.if1.true in
+    let t = sym c.reach_fits-fits.ensures ∙ c.if-not-fits.true in
     record { unfit = λ e. (refl, refl, refl, refl, refl); found = λ e. clash e t; untouched = untouched_none _ _ _ _ _ _ }
 
-mul-numbers : tie.Need-overflow-mul-numbers invariant-loop decreases-loop
+mul-numbers : tie.Need-offset_bounds-numbers-from invariant-loop decreases-loop
 mul-numbers c = let r = room c.before.before.before.before in omega (arith, r.1, r.0.small)
 
-slice-write-numbers : tie.Need-slice-write-numbers invariant-loop decreases-loop
-slice-write-numbers c = let r = room c.before.before.before.before in omega (arith, r.1, r.0.number_room, c.before.before.fill.ensures.size)
+slice-write-numbers : tie.Need-bounds-numbers-from invariant-loop decreases-loop
+slice-write-numbers c = let r = room c.before.before.before.before in omega (arith, r.1, r.0.number_room, c.fill.ensures.size)
 
-cast-queue : tie.Need-overflow-cast-queue invariant-loop decreases-loop
+cast-queue : tie.Need-overflow_cast-queue invariant-loop decreases-loop
 cast-queue c = let r = room c.before.before.before.before in omega (arith, r.1, r.0.small)
 
-slice-write-queue : tie.Need-slice-write-queue invariant-loop decreases-loop
+slice-write-queue : tie.Need-bounds-queue-0 invariant-loop decreases-loop
 slice-write-queue c = let r = room c.before.before.before.before in omega (arith, r.1, r.0.queue_room)
 
-loop-holds : tie.Need-loop-init invariant-loop decreases-loop
+loop-holds : tie.Need-loop-k-init invariant-loop decreases-loop
 loop-holds c =
     let u : tie.After-fill invariant-loop decreases-loop = c.before.before in
     let x = u.fill.ensures in
@@ -78,39 +78,37 @@ loop-holds c =
           (reach_room_kept _ _ _ _ _ _ _ _ _ _ _ r.0 (begun u)),
     )
 
-read-state-requires : tie.Need-read-state-requires invariant-loop decreases-loop
-read-state-requires c κs = let t = c.before.before.before.before.before.loop.invariant in (t.1.room, reached_own _ _ _ _ _ _ _ _ _ t.1.reached, c.before.before.before.before.loop-test.true)
+read-state-requires : tie.Need-read_state-met-requires invariant-loop decreases-loop
+read-state-requires c κs = let t = c.loop-k.invariant in (t.1.room, reached_own _ _ _ _ _ _ _ _ _ t.1.reached, c.loop-k-test.true)
 
-add-k : tie.Need-overflow-add-k invariant-loop decreases-loop
-add-k c = let t = c.before.before.before.before.before.before.before.before.before.before.before.before.before.before.loop.invariant.1 in omega (arith, c.before.before.before.before.before.before.before.before.before.before.before.before.before.loop-test.true, t.reached.places.few, t.room.small)
+add-k : tie.Need-overflow_add-k invariant-loop decreases-loop
+add-k c = let t = c.loop-k.invariant.1 in omega (arith, c.loop-k-test.true, t.reached.places.few, t.room.small)
 
-loop-less : tie.Need-loop-smaller invariant-loop decreases-loop
-loop-less c = let t = c.before.before.before.before.before.before.before.before.before.before.before.before.before.before.loop.invariant.1 in omega (arith, c.before.before.before.before.before.before.before.before.before.before.before.before.before.loop-test.true, t.reached.places.few)
+loop-less : tie.Need-loop-k-smaller invariant-loop decreases-loop
+loop-less c = let t = c.loop-k.invariant.1 in omega (arith, c.loop-k-test.true, t.reached.places.few)
 
-loop-again : tie.Need-loop-preserved invariant-loop decreases-loop
+loop-again : tie.Need-loop-k-preserved invariant-loop decreases-loop
 loop-again c =
-    let r = c.before.before.before.before.before.before.before.before.read-state.ensures in
-    (omega (arith, c.before.before.before.before.before.before.before.before.before.before.before.before.before.loop-test.true, r.more), reaching_more _ _ _ _ _ _ _ _ _ _ _ _ _ _ _ _ _ _ _ _ _ c.before.before.before.before.before.before.before.before.before.before.before.before.before.before.loop.invariant.1 r)
+    let r = c.read_state-met.ensures in
+    (omega (arith, c.loop-k-test.true, r.more), reaching_more _ _ _ _ _ _ _ _ _ _ _ _ _ _ _ _ _ _ _ _ _ c.loop-k.invariant.1 r)
 
 -- what is written at the end
-written : (c : tie.After-loop invariant-loop decreases-loop) → let a = c.before.before.before.before.before.before.before.before.before.before.before.before.before.args in let t = c.before.loop in
+written : (c : tie.After-loop-k invariant-loop decreases-loop) → let a = c.args in let t = c.loop-k in
     Untouched a.states t.met a.numbers.now t.numbers a.queue.now t.queue a.parents.now t.parents a.by.now t.by
-written c = let t = c.before.loop.invariant.1 in untouched_then t.reached.some (begun c.before.before.before.before) t.untouched
+written c = let t = c.loop-k.invariant.1 in untouched_then t.reached.some (begun c.before.before.before.before) t.untouched
 
-returns_2 : tie.Need-returns-2 invariant-loop decreases-loop
+returns_2 : tie.Need-returns invariant-loop decreases-loop
 returns_2 c =
-    let t = c.before.loop.invariant in
+    let t = c.loop-k.invariant in
     let x = t.1.reached in
-    let e : tie.Else1 invariant-loop decreases-loop = c.before.before.before.before.before.before in
+    let e : tie.Else-not-fits invariant-loop decreases-loop = c.before.before.before.before.before.before in
     record {
       unfit = λ f. clash (fit e) f;
-      found = λ f. record { reached = rw (le_antisymm t.0 c.loop-test.false) at x; exact = reached_exact _ _ _ _ _ _ _ _ _ x (room e).1 c.loop-test.false };
+      found = λ f. record { reached = rw (le_antisymm t.0 c.loop-k-test.false) at x; exact = reached_exact _ _ _ _ _ _ _ _ _ x (room e).1 c.loop-k-test.false };
       untouched = written c;
     }
 
 pub find_reached_spec : {M : Type 1} → statement M
 find_reached_spec =
     tie.close
-    (tie.spec invariant-loop decreases-loop (λ c κs. search rules) returns (λ c κs. (room c.before).0.number_room) mul-numbers slice-write-numbers cast-queue
-    slice-write-queue loop-holds read-state-requires add-k loop-less loop-again (λ c. (written c).past_numbers.size)
-    (λ c. (written c).past_queue.size) (λ c. (written c).past_parents.size) (λ c. (written c).past_letters.size) returns_2)
+    (tie.spec invariant-loop decreases-loop (λ c κs. search rules) returns (λ c κs. (room c.before).0.number_room) mul-numbers slice-write-numbers cast-queue slice-write-queue loop-holds read-state-requires add-k loop-less loop-again (λ c. (written c).past_numbers.size) (λ c. (written c).past_queue.size) (λ c. (written c).past_parents.size) (λ c. (written c).past_letters.size) returns_2)

@@ -12,10 +12,10 @@ use Rattle.components.proofs.Reaches.{Leading, leading_none, leading_more, leadi
 use Rattle.components.proofs.path_to.Statement.{statement}
 use Rattle.components.proofs.path_to.Tie as tie
 
-abbrev invariant-loop : tie.invariant-loop
+abbrev invariant-loop : tie.invariant-loop-i
 invariant-loop place parents by out₀ begin₀ i₀ out begin i = (length out ≡ length out₀) × Leading place parents by out₀ out begin i
 
-abbrev decreases-loop : tie.decreases-loop
+abbrev decreases-loop : tie.decreases-loop-i
 decreases-loop place parents by out₀ begin₀ i₀ out begin i = begin
 
 -- what the test leaves
@@ -26,40 +26,38 @@ tested i begin p l h =
     let d = and_parts (ltb i p) (ltb i l) b.1 in
     (eqb-false i 0 (not-true _ a.0), eqb-false begin 0 (not-true _ b.0), ltb-true i p d.0, ltb-true i l d.1)
 
-module _ (c : tie.In-loop invariant-loop decreases-loop) where
+module _ (c : tie.In-loop-i invariant-loop decreases-loop) where
   abbrev start : tie.Start invariant-loop decreases-loop
   start = c.before.before
 
-  abbrev here : tie.At-loop invariant-loop decreases-loop
+  abbrev here : tie.At-loop-i invariant-loop decreases-loop
   here = c.before
 
-  on : let i = here.loop.i in let begin = here.loop.begin in
+  on : let i = here.loop-i.i in let begin = here.loop-i.begin in
       (i ≡ 0 → ⊥) × (begin ≡ 0 → ⊥) × (i < length start.args.parents.now) × (i < length start.args.by.now)
-  on = tested _ _ _ _ c.loop-test.true
+  on = tested _ _ _ _ c.loop-i-test.true
 
-slice-write-out : tie.Need-slice-write-out invariant-loop decreases-loop
+slice-write-out : tie.Need-bounds-out-begin invariant-loop decreases-loop
 slice-write-out c =
     let t = on c.before in
-    let l = c.before.before.loop.invariant in
+    let l = c.loop-i.invariant in
     omega (arith, l.0, l.1.within)
 
-cast-i : tie.Need-overflow-cast-i invariant-loop decreases-loop
-cast-i c = omega (arith, c.shared-slice-known2.given c.before.before.before.loop.i)
+cast-i : tie.Need-overflow_cast-i invariant-loop decreases-loop
+cast-i c = omega (arith, c.shared_slice_known-in-loop-i-1.given c.loop-i.i)
 
-loop-again : tie.Need-loop-preserved invariant-loop decreases-loop
+loop-again : tie.Need-loop-i-preserved invariant-loop decreases-loop
 loop-again c =
     let t = on c.before.before in
-    let l = c.before.before.before.loop.invariant in
+    let l = c.loop-i.invariant in
     (simp length-set l.0, leading_more _ _ _ _ _ _ _ l.0 l.1 t.0 t.1)
 
 returns : tie.Need-returns invariant-loop decreases-loop
 returns c =
-    let l = c.before.loop.invariant in
-    leading_all _ _ _ _ _ _ _ l.0 l.1 c.loop-test.false
+    let l = c.loop-i.invariant in
+    leading_all _ _ _ _ _ _ _ l.0 l.1 c.loop-i-test.false
 
 pub path_to_spec : {M : Type 1} → statement M
 path_to_spec =
     tie.close
-    (tie.spec invariant-loop decreases-loop (λ c. (refl, leading_none _ _ _ _)) (λ c. let t = on (c) in omega arith) (λ c. let t = on c.before in omega arith)
-    slice-write-out (λ c. let t = on c.before in omega arith) (λ c. let t = on c.before.before in omega arith) cast-i
-    (λ c. let t = on c.before.before in omega arith) loop-again (λ c. c.before.loop.invariant.0) returns)
+    (tie.spec invariant-loop decreases-loop (λ c. (refl, leading_none _ _ _ _)) (λ c. let t = on (c) in omega arith) (λ c. let t = on c.before in omega arith) slice-write-out (λ c. let t = on c.before in omega arith) (λ c. let t = on c.before.before in omega arith) cast-i (λ c. let t = on c.before.before in omega arith) loop-again (λ c. c.loop-i.invariant.0) returns)

@@ -23,22 +23,22 @@ promised : (n m : ℕ) (ts ps lead l : List ℕ) {x : Answer} → ParitySays n m
 promised n m ts ps lead l says = (says, parity_means n m ts ps lead l _ says)
 
 -- the refusal, of the table or of the word
-module _ (c : tie.After-first-fault) where
+module _ (c : tie.After-first_fault-refused) where
   abbrev start : tie.Start
   start = c.before.before.before.before.before.before.before.before
 
-  refusal : c.first-fault.result ≡ first_of (parity_fault start.args.rows start.args.letters start.args.targets.now start.args.priorities.now) (word_fault start.args.letters start.args.lead.now start.args.looped.now)
+  refusal : c.first_fault-refused.result ≡ first_of (parity_fault start.args.rows start.args.letters start.args.targets.now start.args.priorities.now) (word_fault start.args.letters start.args.lead.now start.args.looped.now)
   refusal =
-      c.first-fault.ensures ∙ first_same c.before.before.before.parity-fault.ensures (c.before.word-fault.ensures ∙ ap (λ (m : ℕ). word_fault m start.args.lead.now start.args.looped.now) c.before.before.byte_of.ensures)
+      c.first_fault-refused.ensures ∙ first_same c.parity_fault-table_fault.ensures (c.word_fault-word_fault.ensures ∙ ap (λ (m : ℕ). word_fault m start.args.lead.now start.args.looped.now) c.byte_of.ensures)
       ∙ byte_letters start.args.rows start.args.letters start.args.targets.now start.args.priorities.now start.args.lead.now start.args.looped.now
 
 -- nothing is refused
-module _ (c : tie.Else1) where
+module _ (c : tie.Else-refused-ne0) where
   abbrev s : tie.Start
   s = start c.before
 
   unrefused : (parity_fault s.args.rows s.args.letters s.args.targets.now s.args.priorities.now ≡ 0) × (word_fault s.args.letters s.args.lead.now s.args.looped.now ≡ 0)
-  unrefused = first_zero _ _ (sym (refusal c.before) ∙ c.if1.false)
+  unrefused = first_zero _ _ (sym (refusal c.before) ∙ c.if-refused-ne0.false)
 
   -- the run's answer is the judge's
   judged : (r : Judged) → answer_of r ≡ parity_run s.args.rows s.args.letters s.args.targets.now s.args.priorities.now s.args.lead.now s.args.looped.now
@@ -46,31 +46,30 @@ module _ (c : tie.Else1) where
   judged r h =
       promised s.args.rows s.args.letters s.args.targets.now s.args.priorities.now s.args.lead.now s.args.looped.now (rw (unrefused.0, unrefused.1) h)
 
-returns : tie.Need-returns
+returns : tie.Need-returns-then-refused-ne0
 returns c =
     let a = (start c.before).args in
-    promised a.rows a.letters a.targets.now a.priorities.now a.lead.now a.looped.now (rw (← refusal c.before) (refused_given _ _ c.if1.true))
+    promised a.rows a.letters a.targets.now a.priorities.now a.lead.now a.looped.now (rw (← refusal c.before) (refused_given _ _ c.if-refused-ne0.true))
 
-judge-small-requires : tie.Need-judge-small-requires
-judge-small-requires c κs = let one = c.before in ((unrefused one).0, (unrefused one).1, c.if2.true)
+judge-small-requires : tie.Need-judge_small-requires
+judge-small-requires c κs = let one = c.before in ((unrefused one).0, (unrefused one).1, c.if-rows-le-SMALL_ROWS.true)
 
-returns_2 : tie.Need-returns-2
-returns_2 c = judged c.before.before c.judge-small.result c.judge-small.ensures
+returns_2 : tie.Need-returns-then-rows-le-SMALL_ROWS
+returns_2 c = judged c.before.before c.judge_small.result c.judge_small.ensures
 
-judge-middle-requires : tie.Need-judge-middle-requires
-judge-middle-requires c κs = let one = c.before.before in ((unrefused one).0, (unrefused one).1, c.if3.true)
+judge-middle-requires : tie.Need-judge_middle-requires
+judge-middle-requires c κs = let one = c.before.before in ((unrefused one).0, (unrefused one).1, c.if-rows-le-MIDDLE_ROWS.true)
 
-returns-3 : tie.Need-returns-3
-returns-3 c = judged c.before.before.before c.judge-middle.result c.judge-middle.ensures
+returns-3 : tie.Need-returns-then-rows-le-MIDDLE_ROWS
+returns-3 c = judged c.before.before.before c.judge_middle.result c.judge_middle.ensures
 
-judge-large-requires : tie.Need-judge-large-requires
+judge-large-requires : tie.Need-judge_large-requires
 judge-large-requires c κs = unrefused c.before.before
 
-returns-4 : tie.Need-returns-4
-returns-4 c = judged c.before.before.before c.judge-large.result c.judge-large.ensures
+returns-4 : tie.Need-returns
+returns-4 c = judged c.before.before.before c.judge_large.result c.judge_large.ensures
 
 pub judge_parity_spec : {M : Type 1} → statement M
 judge_parity_spec =
     tie.close
-    (tie.spec (λ c κs. search rules) (λ c κs. search rules) (λ c κs. search rules) (λ c κs. search rules) returns judge-small-requires returns_2
-    judge-middle-requires returns-3 judge-large-requires returns-4)
+    (tie.spec (λ c κs. search rules) (λ c κs. search rules) (λ c κs. search rules) (λ c κs. search rules) returns judge-small-requires returns_2 judge-middle-requires returns-3 judge-large-requires returns-4)

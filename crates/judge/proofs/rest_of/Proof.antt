@@ -8,21 +8,20 @@ use Rattle.judge.proofs.Checks.{part_rest}
 use Rattle.judge.proofs.rest_of.Statement.{statement}
 use Rattle.judge.proofs.rest_of.Tie as tie
 
-returns : tie.Need-returns
-returns c = let inside = lt-ltb _ _ c.before.if1.true in (rw (inside, part_rest), rw inside)
+returns : tie.Need-returns-then-place-lead
+returns c = let inside = lt-ltb _ _ c.if-place-lead.true in (rw (inside, part_rest), rw inside)
 
-returns_2 : tie.Need-returns-2
+returns_2 : tie.Need-returns-then-behind-looped
 returns_2 c =
-    let behind = le-ltb _ _ c.before.before.if1.false in
-    (rw (behind, part_rest), rw (behind, min-eq_left (le_of_lt c.before.if2.true)))
+    let behind = le-ltb _ _ c.if-place-lead.false in
+    (rw (behind, part_rest), rw (behind, min-eq_left (le_of_lt c.if-behind-looped.true)))
 
-returns-3 : tie.Need-returns-3
+returns-3 : tie.Need-returns
 returns-3 c =
-    let behind = le-ltb _ _ c.before.before.if1.false in
-    (rw (behind, part_rest, drop-length, drop_of_length-le _ c.before.if2.false), rw (behind, min-eq_right c.before.if2.false))
+    let behind = le-ltb _ _ c.if-place-lead.false in
+    (rw (behind, part_rest, drop-length, drop_of_length-le _ c.if-behind-looped.false), rw (behind, min-eq_right c.if-behind-looped.false))
 
 pub rest_of_spec : {M : Type 1} → statement M
 rest_of_spec =
     tie.close
-    (tie.spec (λ c. search rules) (λ c. search rules) (λ c. search rules) returns (λ c. search rules) (λ c. search rules) (λ c. search rules)
-    (λ c. search rules) returns_2 (λ c. search rules) (λ c. search rules) (λ c. search rules) returns-3)
+    (tie.spec (λ c. search rules) (λ c. search rules) (λ c. search rules) returns (λ c. search rules) (λ c. search rules) (λ c. search rules) (λ c. search rules) returns_2 (λ c. search rules) (λ c. search rules) (λ c. search rules) returns-3)

@@ -19,10 +19,10 @@ use Rattle.tables.proofs.check_table.Statement.{statement}
 use Rattle.tables.proofs.check_table.Tie as tie
 
 -- what each test leaves, in the order of the code
-whole : (c : tie.Else1) → ltb (length c.before.before.args.table.now) header_size ≡ false
-whole c = le-ltb _ _ c.if1.false
+whole : (c : tie.Else-table-lt-HEADER_SIZE) → ltb (length c.before.before.args.table.now) header_size ≡ false
+whole c = le-ltb _ _ c.if-table-lt-HEADER_SIZE.false
 
-module _ (c : tie.Else2) where
+module _ (c : tie.Else-bad_sizes) where
   abbrev bytes : List ℕ
   bytes = c.before.before.before.before.before.before.before.args.table.now
 
@@ -30,77 +30,77 @@ module _ (c : tie.Else2) where
   header = whole c.before.before.before.before.before
 
   sizes : bad_sizes (table_of bytes).states (table_of bytes).letters (table_of bytes).pairs ≡ false
-  sizes = sym c.before.bad-sizes.ensures ∙ c.if2.false
+  sizes = sym c.before.bad_sizes.ensures ∙ c.if-bad_sizes.false
 
   sizes_taken : SizeFacts (table_of bytes).states (table_of bytes).letters (table_of bytes).pairs
   sizes_taken = size_facts _ _ _ sizes
 
-enough : (c : tie.Else3) → let bs = bytes c.before in ltb (length bs) (table_length (table_of bs).states (table_of bs).letters) ≡ false
-enough c = le-ltb _ _ c.if3.false
+enough : (c : tie.Else-table-length) → let bs = bytes c.before in ltb (length bs) (table_length (table_of bs).states (table_of bs).letters) ≡ false
+enough c = le-ltb _ _ c.if-table-length.false
 
-exact : (c : tie.Else4) → let bs = bytes c.before.before in ltb (table_length (table_of bs).states (table_of bs).letters) (length bs) ≡ false
+exact : (c : tie.Else-length-table) → let bs = bytes c.before.before in ltb (table_length (table_of bs).states (table_of bs).letters) (length bs) ≡ false
 exact c =
     let bs = bytes c.before.before in
     let l : length bs ≤ table_length (table_of bs).states (table_of bs).letters = omega arith in
     le-ltb _ _ l
 
 -- what both checks of the cells find decides the rest
-judged : (c : tie.After-bad-marks)
-    → CheckSays (bytes c.before.before.before.before.before.before.before.before) (first_of (when c.before.before.bad-targets.result Refusal.target) (when c.bad-marks.result Refusal.marks))
+judged : (c : tie.After-bad_marks-wrong_marks)
+    → CheckSays (bytes c.before.before.before.before.before.before.before.before) (first_of (when c.before.before.bad_targets-wrong_target.result Refusal.target) (when c.bad_marks-wrong_marks.result Refusal.marks))
 judged c =
     let five = c.before.before.before.before in
     let four = five.before.before in
     let two = four.before.before in
-    rw (c.before.before.bad-targets.ensures, c.bad-marks.ensures, targets_part (bytes two), marks_part (bytes two))
-    (cells_judged (bytes two) (header two) (sizes two) (enough four.before) (exact four) (lt-leb _ _ five.if5.false))
+    rw (c.before.before.bad_targets-wrong_target.ensures, c.bad_marks-wrong_marks.ensures, targets_part (bytes two), marks_part (bytes two))
+    (cells_judged (bytes two) (header two) (sizes two) (enough four.before) (exact four) (lt-leb _ _ five.if-n-table.false))
 
-returns : tie.Need-returns
-returns c = header_short _ (lt-ltb _ _ c.if1.true)
+returns : tie.Need-returns-then-table-lt-HEADER_SIZE
+returns c = header_short _ (lt-ltb _ _ c.if-table-lt-HEADER_SIZE.true)
 
-returns_2 : tie.Need-returns-2
-returns_2 c = sizes_bad _ (whole c.before.before.before.before.before) (sym c.before.bad-sizes.ensures ∙ c.if2.true)
+returns_2 : tie.Need-returns-then-bad_sizes
+returns_2 c = sizes_bad _ (whole c.before.before.before.before.before) (sym c.before.bad_sizes.ensures ∙ c.if-bad_sizes.true)
 
-cast-cells : tie.Need-overflow-cast-cells
+cast-cells : tie.Need-overflow_cast-cells
 cast-cells c = omega (arith, sizes_taken c)
 
-cast-cells-2 : tie.Need-overflow-cast-cells-2
+cast-cells-2 : tie.Need-overflow_cast-cells-2
 cast-cells-2 c = omega (arith, sizes_taken c)
 
-mul-cells : tie.Need-overflow-mul-cells
+mul-cells : tie.Need-overflow_mul-cells
 mul-cells c = omega (arith, sizes_taken c)
 
-mul-length : tie.Need-overflow-mul-length
+mul-length : tie.Need-overflow_mul-length
 mul-length c = omega (arith, sizes_taken c)
 
-add-length : tie.Need-overflow-add-length
+add-length : tie.Need-overflow_add-length
 add-length c = omega (arith, sizes_taken c)
 
-returns-3 : tie.Need-returns-3
-returns-3 c = cells_short _ (header c.before) (sizes c.before) (lt-ltb _ _ c.if3.true)
+returns-3 : tie.Need-returns-then-table-length
+returns-3 c = cells_short _ (header c.before) (sizes c.before) (lt-ltb _ _ c.if-table-length.true)
 
-returns-4 : tie.Need-returns-4
-returns-4 c = cells_long _ (header c.before.before) (sizes c.before.before) (enough c.before) (lt-ltb _ _ c.if4.true)
+returns-4 : tie.Need-returns-then-length-table
+returns-4 c = cells_long _ (header c.before.before) (sizes c.before.before) (enough c.before) (lt-ltb _ _ c.if-length-table.true)
 
-returns-5 : tie.Need-returns-5
+returns-5 : tie.Need-returns-then-n-table
 returns-5 c =
     let four = c.before.before in
     let two = four.before.before in
-    start_bad _ (header two) (sizes two) (enough four.before) (exact four) (le-leb _ _ c.if5.true)
+    start_bad _ (header two) (sizes two) (enough four.before) (exact four) (le-leb _ _ c.if-n-table.true)
 
-bad-marks-requires : tie.Need-bad-marks-requires
+bad-marks-requires : tie.Need-bad_marks-wrong_marks-requires
 bad-marks-requires c κs =
     let three = c.before.before.before.before.before.before in
     let two = three.before in
-    rw (targets_part (bytes two), marks_part (bytes two)) (parts_match (bytes two) three.if3.false, (sizes_taken two).most_pairs)
+    rw (targets_part (bytes two), marks_part (bytes two)) (parts_match (bytes two) three.if-table-length.false, (sizes_taken two).most_pairs)
 
-returns-6 : tie.Need-returns-6
-returns-6 c = rw c.if6.true at (judged c.before)
+returns-6 : tie.Need-returns-then-wrong_target
+returns-6 c = rw c.if-wrong_target.true at (judged c.before)
 
-returns-7 : tie.Need-returns-7
-returns-7 c = rw (c.before.if6.false, c.if7.true) at (judged c.before.before)
+returns-7 : tie.Need-returns-then-wrong_marks
+returns-7 c = rw (c.before.if-wrong_target.false, c.if-wrong_marks.true) at (judged c.before.before)
 
-returns-8 : tie.Need-returns-8
-returns-8 c = rw (c.before.if6.false, c.if7.false) at (judged c.before.before)
+returns-8 : tie.Need-returns
+returns-8 c = rw (c.before.if-wrong_target.false, c.if-wrong_marks.false) at (judged c.before.before)
 
 pub check_table_spec : {M : Type 1} → statement M
 check_table_spec =

@@ -6,12 +6,12 @@ use Rattle.rules.proofs.Arrays.{get_d_any}
 use Rattle.components.proofs.cells.target_at.Statement.{statement}
 use Rattle.components.proofs.cells.target_at.Tie as tie
 
-cast-result : tie.Need-overflow-cast-result
-cast-result c = omega (arith, c.shared-slice-known.given c.before.args.place)
+cast-result : tie.Need-overflow_cast-result
+cast-result c = omega (arith, c.shared_slice_known-1.given c.args.place)
 
 returns : tie.Need-returns
 returns c =
-    let s = c.before in
+    let s = c in
     get_d_any s.args.targets.now s.args.place 0 no_row s.requires
 
 pub target_at_spec : {M : Type 1} → statement M

@@ -19,73 +19,63 @@ module _ (s : tie.Start) where
   state = q_state _ _ _ _ _ _ _ _ s.requires.0 s.requires.1.1 s.requires.2 s.requires.4 s.requires.5
 
   few : (s.args.parts ≤ s.args.count) × (s.args.left ≤ s.args.count) × (s.args.count ≤ s.args.n)
-  few = let x = s.pre.1.1.searched in (parts_few _ _ _ _ _ x.parts, waiting_few _ _ _ _ _ _ _ _ x.letters, x.places.few)
+  few = let x = s.requires.1.1.searched in (parts_few _ _ _ _ _ x.parts, waiting_few _ _ _ _ _ _ _ _ x.letters, x.places.few)
 
   cells : s.args.q * s.args.m + s.args.m ≤ length s.args.targets.now
-  cells = omega (arith, row_ends s.args.n s.args.m s.args.q state, s.pre.0.cell_room)
+  cells = omega (arith, row_ends s.args.n s.args.m s.args.q state, s.requires.0.cell_room)
 
   -- where the next letter of q is
   entry : (4 * s.args.n + s.args.q < length s.args.work.now) × (4 * s.args.n + s.args.q < 5 * done_number)
-  entry = (omega (arith, state, s.pre.0.work_room), omega (arith, state, s.pre.0.small))
+  entry = (omega (arith, state, s.requires.0.work_room), omega (arith, state, s.requires.0.small))
 
 -- where reading stopped at a letter
-module _ (e : tie.Else1) where
+module _ (e : tie.Else-m-letter) where
   abbrev s : tie.Start
-  s = e.before.before.before.before.before.before
+  s = e.before.before.before.before.before
 
   abbrev place : ℕ
-  place = s.args.q * s.args.m + e.before.scan.result.letter
+  place = s.args.q * s.args.m + e.scan-found.result.letter
 
   here : place < length s.args.targets.now
-  here = omega (arith, cells s, e.if1.left)
+  here = omega (arith, cells s, e.if-m-letter.false)
 
   fresh : (get_or s.args.targets.now place no_row < s.args.n) × (at (numbers_in s.args.n s.args.work.now) (get_or s.args.targets.now place no_row) ≡ 0)
-  fresh = e.before.scan.ensures.fresh e.if1.left
+  fresh = e.scan-found.ensures.fresh e.if-m-letter.false
 
-  open_room : (s.args.count < s.args.n) × (e.before.scan.result.parts ≤ s.args.count) × (e.before.scan.result.letter < done_number)
-  open_room = (room _ _ _ _ s.pre.1.1.searched.places _ fresh.0 fresh.1, omega (arith, e.before.scan.ensures.read.fewer, (few s).0), omega (arith, e.if1.left, s.pre.0.letters_small))
+  open_room : (s.args.count < s.args.n) × (e.scan-found.result.parts ≤ s.args.count) × (e.scan-found.result.letter < done_number)
+  open_room = (room _ _ _ _ s.requires.1.1.searched.places _ fresh.0 fresh.1, omega (arith, e.scan-found.ensures.read.fewer, (few s).0), omega (arith, e.if-m-letter.false, s.requires.0.letters_small))
 
-scan-requires : tie.Need-scan-requires
+scan-requires : tie.Need-scan-found-requires
 scan-requires c κs =
-    let s = c.before.before.before.before in
+    let s = c.before.before.before in
     let p = s.requires.1.1.searched.parts in
     (state s, s.requires.0.cell_room, s.requires.0.work_room, s.requires.3, omega (arith, few s), p.first s.requires.3, p.rising)
 
-returns : tie.Need-returns
+returns : tie.Need-returns-then-m-letter
 returns c =
-    let s = c.before.before.before.before.before.before in
-    λ outs x. turn_read _ _ _ _ _ _ _ outs s.requires.0 x s.requires.2 s.requires.4 s.requires.5 _ _ c.before.scan.ensures c.if1.true
+    let s = c in
+    λ outs x. turn_read _ _ _ _ _ _ _ outs s.requires.0 x s.requires.2 s.requires.4 s.requires.5 _ _ c.scan-found.ensures c.if-m-letter.true
 
 enter-requires : tie.Need-enter-requires
 enter-requires c κs =
-    let e : tie.Else1 = c.before.before in
+    let e : tie.Else-m-letter = c.before.before in
     let o = open_room e in
-    ((s e).requires.0.small, rw (← c.before.target_at.ensures) at (fresh e).0, o.0, omega (arith, o), omega (arith, o.0, few (s e)), (s e).requires.0.work_room)
+    ((s e).requires.0.small, rw (← c.target_at-target.ensures) at (fresh e).0, o.0, omega (arith, o), omega (arith, o.0, few (s e)), (s e).requires.0.work_room)
 
 -- the state is opened
-abbrev opened : tie.After-slice-known3 → tie.Else1
+abbrev opened : tie.After-slice_known-3-1 → tie.Else-m-letter
 opened c = c.before.before.before.before.before
 
-slice-write-work-2 : tie.Need-slice-write-work-2
-slice-write-work-2 c = omega (arith, entry c.before.before.before.before.before.before.before.before.before.before.before, c.before.before.enter.auto.1.1.1.1.1.0)
+slice-write-work-2 : tie.Need-bounds-work-next-2
+slice-write-work-2 c = omega (arith, entry c.before.before.before.before.before.before.before.before.before.before, c.enter.auto.work)
 
-returns_2 : tie.Need-returns-2
+returns_2 : tie.Need-returns
 returns_2 c =
-    let e : tie.Else1 = c.before.before.before.before.before in
+    let e : tie.Else-m-letter = c.before.before.before.before.before in
     let t = (s e).requires in
-    λ outs x. turn_entered _ _ _ _ _ _ _ outs t.0 x t.2 t.4 t.5 _ _ e.before.scan.ensures _ e.if1.false (rw c.before.before.before.before.target_at.ensures at c.before.before.enter.ensures)
+    λ outs x. turn_entered _ _ _ _ _ _ _ outs t.0 x t.2 t.4 t.5 _ _ e.scan-found.ensures _ e.if-m-letter.false (rw c.target_at-target.ensures at c.enter.ensures)
 
 pub extend_spec : {M : Type 1} → statement M
 extend_spec =
     tie.close
-    (tie.spec (λ c. omega arith) (λ c. omega (arith, entry c.before.before)) (λ c. omega (arith, entry c.before.before))
-    (λ c. (entry c.before.before.before).0)
-    (λ c. let a = c.before.before.before.args in omega (arith, c.slice-known2.given (4 * a.n + a.q))) scan-requires
-    (λ c. omega (arith, c.before.before.before.before.before.before.requires.0.letters_small))
-    (λ c. omega (arith, entry c.before.before.before.before.before.before))
-    (λ c. (entry c.before.before.before.before.before.before).0) (λ c. omega arith) (λ c. search rules) returns
-    (λ c. omega (arith, cells (s c))) (λ c. omega (arith, here c)) (λ c κs. here c) enter-requires (λ c. omega (arith, open_room (opened c)))
-    (λ c. omega (arith, open_room (opened c))) (λ c. omega (arith, entry (s (opened c)))) slice-write-work-2
-    (λ c. omega (arith, open_room (opened c), few (s (opened c)), entry (s (opened c))))
-    (λ c. omega (arith, open_room (opened c), few (s (opened c)), entry (s (opened c))))
-    (λ c. omega (arith, open_room (opened c), few (s (opened c)), entry (s (opened c)))) (λ c. search rules) returns_2)
+    (tie.spec (λ c. omega arith) (λ c. omega (arith, entry c.before.before)) (λ c. omega (arith, entry c.before.before)) (λ c. (entry c.before.before.before).0) (λ c. let a = c.args in omega (arith, c.slice_known-2-1.given (4 * a.n + a.q))) scan-requires (λ c. omega (arith, c.requires.0.letters_small)) (λ c. omega (arith, entry c.before.before.before.before.before)) (λ c. (entry c.before.before.before.before.before).0) (λ c. omega arith) (λ c. search rules) returns (λ c. omega (arith, cells (s c))) (λ c. omega (arith, here c)) (λ c κs. here c) enter-requires (λ c. omega (arith, open_room (opened c))) (λ c. omega (arith, open_room (opened c))) (λ c. omega (arith, entry (s (opened c)))) slice-write-work-2 (λ c. omega (arith, open_room (opened c), few (s (opened c)), entry (s (opened c)))) (λ c. omega (arith, open_room (opened c), few (s (opened c)), entry (s (opened c)))) (λ c. omega (arith, open_room (opened c), few (s (opened c)), entry (s (opened c)))) (λ c. search rules) returns_2)

@@ -12,10 +12,10 @@ use Rattle.components.proofs.Loops.{named_none, named_more}
 use Rattle.components.proofs.paths.name_component.Statement.{statement}
 use Rattle.components.proofs.paths.name_component.Tie as tie
 
-abbrev invariant-loop : tie.invariant-loop
+abbrev invariant-loop : tie.invariant-loop-i
 invariant-loop n from to work₀ outs₀ label i₀ work outs i = (from ≤ i) × (i ≤ to) × (length work ≡ length work₀) × (length outs ≡ length outs₀) × Named n label from i work₀ work outs₀ outs
 
-abbrev decreases-loop : tie.decreases-loop
+abbrev decreases-loop : tie.decreases-loop-i
 decreases-loop n from to work₀ outs₀ label i₀ work outs i = to - i
 
 -- the part that is lent is the stack
@@ -23,47 +23,43 @@ half : (n : ℕ) → 2 * n - n ≡ n
 half n = omega arith
 
 -- a place is left
-module _ (c : tie.In-loop invariant-loop decreases-loop) where
+module _ (c : tie.In-loop-i invariant-loop decreases-loop) where
   abbrev s : tie.Start invariant-loop decreases-loop
-  s = c.before.before.before.before.before.before.before
+  s = c.before.before.before.before.before.before
 
-  abbrev t : tie.At-loop invariant-loop decreases-loop
+  abbrev t : tie.At-loop-i invariant-loop decreases-loop
   t = c.before
 
   -- the state at that place
-  is : at t.loop.work (s.args.n + t.loop.i) ≡ at (stack_in s.args.n s.args.work.now) t.loop.i
+  is : at t.loop-i.work (s.args.n + t.loop-i.i) ≡ at (stack_in s.args.n s.args.work.now) t.loop-i.i
   is =
-      sym (part_at s.args.n s.args.n t.loop.i t.loop.work (omega (arith, c.loop-test.true, s.pre.1)))
-      ∙ ap (λ (xs : List ℕ). at xs t.loop.i) (part_behind s.args.n s.args.n t.loop.work s.args.work.now t.loop.inv.4.parts_kept (omega arith))
+      sym (part_at s.args.n s.args.n t.loop-i.i t.loop-i.work (omega (arith, c.loop-i-test.true, s.requires.1)))
+      ∙ ap (λ (xs : List ℕ). at xs t.loop-i.i) (part_behind s.args.n s.args.n t.loop-i.work s.args.work.now t.loop-i.invariant.4.parts_kept (omega arith))
 
-  state : at t.loop.work (s.args.n + t.loop.i) < s.args.n
-  state = rw is (s.pre.4 t.loop.i c.loop-test.true)
+  state : at t.loop-i.work (s.args.n + t.loop-i.i) < s.args.n
+  state = rw is (s.requires.4 t.loop-i.i c.loop-i-test.true)
 
-smallest-requires : tie.Need-smallest-requires invariant-loop decreases-loop
+smallest-requires : tie.Need-smallest-label-requires invariant-loop decreases-loop
 smallest-requires c κs =
-    let s = c.before.before.before.before in
+    let s = c in
     (s.requires.0, rw (half s.args.n) (omega (arith, s.requires.1, part_length s.args.n s.args.n s.args.work.now (omega (arith, s.requires.2)))))
 
-loop-holds : tie.Need-loop-init invariant-loop decreases-loop
-loop-holds c = (omega arith, omega (arith, c.before.before.before.before.before.requires.0), refl, refl, named_none _ _ _ _ _)
+loop-holds : tie.Need-loop-i-init invariant-loop decreases-loop
+loop-holds c = (omega arith, omega (arith, c.requires.0), refl, refl, named_none _ _ _ _ _)
 
-loop-again : tie.Need-loop-preserved invariant-loop decreases-loop
+loop-again : tie.Need-loop-i-preserved invariant-loop decreases-loop
 loop-again c =
-    let u : tie.In-loop invariant-loop decreases-loop = c.before in
-    let v = u.before.loop.invariant in
+    let u : tie.In-loop-i invariant-loop decreases-loop = c.before in
+    let v = u.loop-i.invariant in
     let l = state u in
     (omega arith, omega arith, simp length-set v.2, simp length-set v.3, named_more _ _ _ _ _ _ _ _ _ v.4 v.0 (is u) l (omega (arith, v.2, (s u).requires.2)) (omega (arith, v.3, (s u).requires.3)))
 
 returns : tie.Need-returns invariant-loop decreases-loop
 returns c =
-    let v = c.before.loop.invariant in
-    record { label = c.before.before.smallest.result; smallest = rw (half c.before.before.before.before.before.before.before.args.n) at c.before.before.smallest.ensures; named = rw (le_antisymm v.1 c.loop-test.false) at v.4 }
+    let v = c.loop-i.invariant in
+    record { label = c.smallest-label.result; smallest = rw (half c.args.n) at c.smallest-label.ensures; named = rw (le_antisymm v.1 c.loop-i-test.false) at v.4 }
 
 pub name_component_spec : {M : Type 1} → statement M
 name_component_spec =
     tie.close
-    (tie.spec invariant-loop decreases-loop (λ c. omega arith) (λ c. omega arith) (λ c. omega arith) (λ c. omega arith) (λ c. omega arith) smallest-requires loop-holds
-    (λ c. omega arith) (λ c. omega arith) (λ c. omega arith) (λ c. omega (arith, state c.before))
-    (λ c. omega (arith, state c.before)) (λ c. omega (arith, state c.before, c.before.before.loop.invariant.2))
-    (λ c. omega (arith, state c.before)) (λ c. omega (arith, state c.before, c.before.before.loop.invariant.3)) (λ c. omega arith)
-    (λ c. omega arith) loop-again (λ c. c.before.loop.invariant.2) (λ c. c.before.loop.invariant.3) returns)
+    (tie.spec invariant-loop decreases-loop (λ c. omega arith) (λ c. omega arith) (λ c. omega arith) (λ c. omega arith) (λ c. omega arith) smallest-requires loop-holds (λ c. omega arith) (λ c. omega arith) (λ c. omega arith) (λ c. omega (arith, state c.before)) (λ c. omega (arith, state c.before)) (λ c. omega (arith, state c.before, c.loop-i.invariant.2)) (λ c. omega (arith, state c.before)) (λ c. omega (arith, state c.before, c.loop-i.invariant.3)) (λ c. omega arith) (λ c. omega arith) loop-again (λ c. c.loop-i.invariant.2) (λ c. c.loop-i.invariant.3) returns)

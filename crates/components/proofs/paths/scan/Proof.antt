@@ -14,10 +14,10 @@ use Rattle.components.proofs.Loops.{letters_none, letters_missing, read_joined}
 use Rattle.components.proofs.paths.scan.Statement.{statement}
 use Rattle.components.proofs.paths.scan.Tie as tie
 
-abbrev invariant-loop : tie.invariant-loop
+abbrev invariant-loop : tie.invariant-loop-a
 invariant-loop n m targets q from work parts starts first kept₀ a₀ kept a = LettersRead (parity_system n m targets) (at (numbers_in n work)) (at (starts_in n work)) q from parts a kept
 
-abbrev decreases-loop : tie.decreases-loop
+abbrev decreases-loop : tie.decreases-loop-a
 decreases-loop n m targets q from work parts starts first kept₀ a₀ kept a = m - a
 
 -- the part that is lent is that of the starts
@@ -29,53 +29,50 @@ row : (s : tie.Start invariant-loop decreases-loop) → s.args.q * s.args.m + s.
 row s = omega (arith, row_ends s.args.n s.args.m s.args.q s.requires.0, s.requires.1)
 
 -- a letter is left
-module _ (c : tie.In-loop invariant-loop decreases-loop) where
+module _ (c : tie.In-loop-a invariant-loop decreases-loop) where
   abbrev s : tie.Start invariant-loop decreases-loop
   s = c.before.before.before.before.before
 
   -- its cell is among the targets
-  here : s.args.q * s.args.m + c.before.loop.a < length s.args.targets.now
-  here = omega (arith, row s, c.loop-test.true)
+  here : s.args.q * s.args.m + c.loop-a.a < length s.args.targets.now
+  here = omega (arith, row s, c.loop-a-test.true)
 
   -- what is read of a state below n is its number
   number_is : (t : ℕ) → t < s.args.n → at (numbers_in s.args.n s.args.work.now) t ≡ at s.args.work.now t
   number_is t l = get_or-take s.args.n s.args.work.now t 0 l
 
-mul-first : tie.Need-overflow-mul-first invariant-loop decreases-loop
+mul-first : tie.Need-overflow_mul-first invariant-loop decreases-loop
 mul-first c = omega (arith, row c.before.before.before)
 
-returns : tie.Need-returns invariant-loop decreases-loop
+returns : tie.Need-returns-then-number-eq0 invariant-loop decreases-loop
 returns c =
-    let u : tie.In-loop invariant-loop decreases-loop = c.before.before.before.before in
-    let t = c.before.before.if1.true in
-    record { read = u.before.loop.invariant; fresh = λ l. rw (← c.before.before.before.target_at.ensures) (t, rw (number_is u _ t) c.if2.true) }
+    let u : tie.In-loop-a invariant-loop decreases-loop = c.before.before.before.before in
+    let t = c.if-target-n.true in
+    record { read = u.loop-a.invariant; fresh = λ l. rw (← c.target_at-target.ensures) (t, rw (number_is u _ t) c.if-number-eq0.true) }
 
-joined-requires : tie.Need-joined-requires invariant-loop decreases-loop
+joined-requires : tie.Need-joined-kept-requires invariant-loop decreases-loop
 joined-requires c κs =
-    let t = c.before.before.before.before.before.loop.invariant in
-    let s = c.before.before.before.before.before.before.before.before.before in
-    let z = number_is c.before.before.before.before _ c.before.before.if1.true in
-    rw (third s.args.n) (t.some, omega (arith, t.fewer, s.requires.4, part_length s.args.n (2 * s.args.n) s.args.work.now (omega (arith, s.requires.2))), omega (arith, s.requires.5, c.if2.false), λ i j l u. s.requires.6 i j l (omega (arith, t.fewer)))
+    let t = c.loop-a.invariant in
+    let s = c in
+    let z = number_is c.before.before.before.before _ c.if-target-n.true in
+    rw (third s.args.n) (t.some, omega (arith, t.fewer, s.requires.4, part_length s.args.n (2 * s.args.n) s.args.work.now (omega (arith, s.requires.2))), omega (arith, s.requires.5, c.if-number-eq0.false), λ i j l u. s.requires.6 i j l (omega (arith, t.fewer)))
 
-loop-again : tie.Need-loop-preserved invariant-loop decreases-loop
+loop-again : tie.Need-loop-a-preserved invariant-loop decreases-loop
 loop-again c =
-    let u : tie.In-loop invariant-loop decreases-loop = c.before.before in
-    let t = u.before.loop in
-    let r = c.before.target_at in
+    let u : tie.In-loop-a invariant-loop decreases-loop = c.before.before in
+    let t = u.loop-a in
+    let r = c.target_at-target in
     ⊎_elim
-    (λ w. let z = number_is u r.result w.0.taken in
-    let some : 0 < at (numbers_in (s u).args.n (s u).args.work.now) r.result = omega (arith, w.2.left) in
-    rw w.4 (read_joined _ _ _ _ _ _ t.a t.auto t.invariant w.3.result u.loop-test.true (rw r.ensures at w.0.taken) (rw r.ensures at some) (rw r.ensures at (rw (← z, third (s u).args.n) at w.3.ensures))))
-    (λ w. rw w.1 (letters_missing _ _ _ _ _ _ t.a t.auto t.invariant (rw r.ensures at w.0.left)))
-    c.if1.branch
+    (λ w. let z = number_is u r.result w.if-target-n.true in
+    let some : 0 < at (numbers_in (s u).args.n (s u).args.work.now) r.result = omega (arith, w.if-number-eq0.false) in
+    rw w.kept-is (read_joined _ _ _ _ _ _ t.a t.kept t.invariant w.joined-kept.result u.loop-a-test.true (rw r.ensures at w.if-target-n.true) (rw r.ensures at some) (rw r.ensures at (rw (← z, third (s u).args.n) at w.joined-kept.ensures))))
+    (λ w. rw w.kept-is (letters_missing _ _ _ _ _ _ t.a t.kept t.invariant (rw r.ensures at w.if-target-n.false)))
+    c.if-target-n.branch-raw
 
-returns_2 : tie.Need-returns-2 invariant-loop decreases-loop
-returns_2 c = record { read = c.before.loop.invariant; fresh = λ l. absurd (omega (arith, c.loop-test.false)) }
+returns_2 : tie.Need-returns invariant-loop decreases-loop
+returns_2 c = record { read = c.loop-a.invariant; fresh = λ l. absurd (omega (arith, c.loop-a-test.false)) }
 
 pub scan_spec : {M : Type 1} → statement M
 scan_spec =
     tie.close
-    (tie.spec invariant-loop decreases-loop (λ c. omega arith) (λ c. omega arith) (λ c. omega arith) (λ c. omega arith) (λ c. omega arith) (λ c. omega arith)
-    mul-first (λ c. letters_none _ _ _ _ _ _ c.before.before.before.requires.3) (λ c. omega (arith, here c)) (λ c κs. here c)
-    (λ c. omega arith) (λ c. omega arith) returns joined-requires (λ c. omega (arith, c.before.before.loop-test.true))
-    (λ c. omega (arith, c.before.before.loop-test.true)) loop-again returns_2)
+    (tie.spec invariant-loop decreases-loop (λ c. omega arith) (λ c. omega arith) (λ c. omega arith) (λ c. omega arith) (λ c. omega arith) (λ c. omega arith) mul-first (λ c. letters_none _ _ _ _ _ _ c.requires.3) (λ c. omega (arith, here c)) (λ c κs. here c) (λ c. omega arith) (λ c. omega arith) returns joined-requires (λ c. omega (arith, c.loop-a-test.true)) (λ c. omega (arith, c.loop-a-test.true)) loop-again returns_2)

@@ -9,24 +9,23 @@ use native.Mathlib.Nat.{le_antisymm}
 use Rattle.components.proofs.paths.smallest.Statement.{statement}
 use Rattle.components.proofs.paths.smallest.Tie as tie
 
-abbrev invariant-loop : tie.invariant-loop
+abbrev invariant-loop : tie.invariant-loop-i
 invariant-loop stack from to best₀ i₀ best i = (from < i) × (i ≤ to) × Smallest (at stack) from i best
 
-abbrev decreases-loop : tie.decreases-loop
+abbrev decreases-loop : tie.decreases-loop-i
 decreases-loop stack from to best₀ i₀ best i = to - i
 
-loop-holds : tie.Need-loop-init invariant-loop decreases-loop
+loop-holds : tie.Need-loop-i-init invariant-loop decreases-loop
 loop-holds c = (omega arith, omega arith, smallest_one _ _)
 
-loop-again : tie.Need-loop-preserved invariant-loop decreases-loop
-loop-again c = let t = c.before.before.before.loop in
-    (omega arith, omega arith, ⊎_elim (λ w. rw w.1 (smallest_better _ _ t.i t.best (omega arith) t.invariant.2 w.0.taken)) (λ w. rw w.1 (smallest_kept _ _ t.i t.best (omega arith) t.invariant.2 w.0.left)) c.if1.branch)
+loop-again : tie.Need-loop-i-preserved invariant-loop decreases-loop
+loop-again c = let t = c.loop-i in
+    (omega arith, omega arith, ⊎_elim (λ w. rw w.best-is (smallest_better _ _ t.i t.best (omega arith) t.invariant.2 w.if-q-best.true)) (λ w. rw w.best-is (smallest_kept _ _ t.i t.best (omega arith) t.invariant.2 w.if-q-best.false)) c.if-q-best.branch-raw)
 
 returns : tie.Need-returns invariant-loop decreases-loop
-returns c = rw (le_antisymm c.before.loop.invariant.1 c.loop-test.false) at c.before.loop.invariant.2
+returns c = rw (le_antisymm c.loop-i.invariant.1 c.loop-i-test.false) at c.loop-i.invariant.2
 
 pub smallest_spec : {M : Type 1} → statement M
 smallest_spec =
     tie.close
-    (tie.spec invariant-loop decreases-loop (λ c. omega arith) (λ c. omega arith) (λ c. omega arith) loop-holds (λ c. omega arith) (λ c. omega arith)
-    (λ c. omega arith) (λ c. omega arith) loop-again returns)
+    (tie.spec invariant-loop decreases-loop (λ c. omega arith) (λ c. omega arith) (λ c. omega arith) loop-holds (λ c. omega arith) (λ c. omega arith) (λ c. omega arith) (λ c. omega arith) loop-again returns)

@@ -11,11 +11,11 @@ use Rattle.components.proofs.Reaches.{Reaching, reaching_none, reaching_more, re
 use Rattle.components.proofs.reach.read_state.Statement.{statement}
 use Rattle.components.proofs.reach.read_state.Tie as tie
 
-abbrev invariant-loop : tie.invariant-loop
+abbrev invariant-loop : tie.invariant-loop-a
 invariant-loop n m targets k count numbers₀ queue₀ parents₀ by₀ first met₀ a₀ numbers queue parents by met a =
     (a ≤ m) × (count ≤ met) × (at queue k ≡ at queue₀ k) × Reaching (parity_system n m targets) (at queue₀ 0) met k a targets numbers₀ numbers queue₀ queue parents₀ parents by₀ by
 
-abbrev decreases-loop : tie.decreases-loop
+abbrev decreases-loop : tie.decreases-loop-a
 decreases-loop n m targets k count numbers₀ queue₀ parents₀ by₀ first met₀ a₀ numbers queue parents by met a = m - a
 
 module _ (s : tie.Start invariant-loop decreases-loop) where
@@ -23,67 +23,64 @@ module _ (s : tie.Start invariant-loop decreases-loop) where
   state = at s.args.queue.now s.args.k
 
   below : state < s.args.n
-  below = s.pre.1.places.state s.args.k s.pre.2
+  below = s.requires.1.places.state s.args.k s.requires.2
 
   place : s.args.k < s.args.n
-  place = omega (arith, s.pre.1.places.few, s.pre.2)
+  place = omega (arith, s.requires.1.places.few, s.requires.2)
 
   cells : state * s.args.m + s.args.m ≤ length s.args.targets.now
-  cells = omega (arith, row_ends s.args.n s.args.m state below, s.pre.0.cell_room)
+  cells = omega (arith, row_ends s.args.n s.args.m state below, s.requires.0.cell_room)
 
 -- a letter is left
-module _ (c : tie.In-loop invariant-loop decreases-loop) where
+module _ (c : tie.In-loop-a invariant-loop decreases-loop) where
   abbrev s : tie.Start invariant-loop decreases-loop
   s = c.before.before.before.before.before.before.before.before
 
-  within : state s * s.args.m + c.before.loop.a < length s.args.targets.now
-  within = omega (arith, cells s, c.loop-test.true)
+  within : state s * s.args.m + c.loop-a.a < length s.args.targets.now
+  within = omega (arith, cells s, c.loop-a-test.true)
 
-mul-first : tie.Need-overflow-mul-first invariant-loop decreases-loop
-mul-first c = omega (arith, place c.before.before.before.before.before, c.before.before.before.before.before.requires.0.small)
+mul-first : tie.Need-offset_bounds-queue-k invariant-loop decreases-loop
+mul-first c = omega (arith, place c.before.before.before.before.before, c.requires.0.small)
 
-slice-read-first : tie.Need-slice-read-first invariant-loop decreases-loop
-slice-read-first c = omega (arith, place c.before.before.before.before.before.before, c.before.before.before.before.before.before.requires.0.queue_room)
+slice-read-first : tie.Need-bounds-queue-k invariant-loop decreases-loop
+slice-read-first c = omega (arith, place c.before.before.before.before.before.before, c.requires.0.queue_room)
 
-cast-first : tie.Need-overflow-cast-first invariant-loop decreases-loop
-cast-first c = omega (arith, below c.before.before.before.before.before.before, c.before.before.before.before.before.before.requires.0.small)
+cast-first : tie.Need-overflow_cast-first invariant-loop decreases-loop
+cast-first c = omega (arith, below c.before.before.before.before.before.before, c.requires.0.small)
 
-mul-first-2 : tie.Need-overflow-mul-first-2 invariant-loop decreases-loop
+mul-first-2 : tie.Need-overflow_mul-first invariant-loop decreases-loop
 mul-first-2 c = omega (arith, cells c.before.before.before.before.before.before)
 
-loop-holds : tie.Need-loop-init invariant-loop decreases-loop
+loop-holds : tie.Need-loop-a-init invariant-loop decreases-loop
 loop-holds c =
-    let s = c.before.before.before.before.before.before in
+    let s = c in
     (omega arith, omega arith, refl, reaching_none _ _ _ _ _ _ _ _ _ _ s.requires.1 s.requires.0)
 
-read-letter-requires : tie.Need-read-letter-requires invariant-loop decreases-loop
+read-letter-requires : tie.Need-read_letter-met-requires invariant-loop decreases-loop
 read-letter-requires c κs =
-    let u : tie.In-loop invariant-loop decreases-loop = c.before.before.before.before.before in
-    let t = u.before.loop.invariant in
-    (t.3.room, reached_own _ _ _ _ _ _ _ _ _ t.3.reached, omega (arith, (s u).requires.2, t.1), u.loop-test.true, c.before.before.before.before.target_at.ensures ∙ ap (λ (q : ℕ). get_or (s u).args.targets.now (q * (s u).args.m + u.before.loop.a) no_row) (sym t.2))
+    let u : tie.In-loop-a invariant-loop decreases-loop = c.before.before.before.before.before in
+    let t = u.loop-a.invariant in
+    (t.3.room, reached_own _ _ _ _ _ _ _ _ _ t.3.reached, omega (arith, (s u).requires.2, t.1), u.loop-a-test.true, c.target_at-target.ensures ∙ ap (λ (q : ℕ). get_or (s u).args.targets.now (q * (s u).args.m + u.loop-a.a) no_row) (sym t.2))
 
-add_a : tie.Need-overflow-add-a invariant-loop decreases-loop
-add_a c = omega (arith, c.before.before.before.before.before.before.before.before.before.before.before.before.before.before.loop-test.true)
+add_a : tie.Need-overflow_add-a invariant-loop decreases-loop
+add_a c = omega (arith, c.loop-a-test.true)
 
-loop-less : tie.Need-loop-smaller invariant-loop decreases-loop
-loop-less c = omega (arith, c.before.before.before.before.before.before.before.before.before.before.before.before.before.before.loop-test.true)
+loop-less : tie.Need-loop-a-smaller invariant-loop decreases-loop
+loop-less c = omega (arith, c.loop-a-test.true)
 
-loop-again : tie.Need-loop-preserved invariant-loop decreases-loop
+loop-again : tie.Need-loop-a-preserved invariant-loop decreases-loop
 loop-again c =
-    let r = c.before.before.before.before.before.before.before.before.read-letter in
-    let t = c.before.before.before.before.before.before.before.before.before.before.before.before.before.before.before.loop.invariant in
-    let u = c.before.before.before.before.before.before.before.before.before.before.before.before.before.before.loop-test.true in
+    let r = c.read_letter-met in
+    let t = c.loop-a.invariant in
+    let u = c.loop-a-test.true in
     (omega arith, omega (arith, t.1, r.ensures.0.more), r.ensures.1 ∙ t.2, reaching_more _ _ _ _ _ _ _ _ _ _ _ _ _ _ _ _ _ _ _ _ _ t.3 r.ensures.0)
 
 returns : tie.Need-returns invariant-loop decreases-loop
 returns c =
-    let t = c.before.loop.invariant in
-    record { reached = reached_letters _ _ _ _ _ _ _ _ _ t.3.reached c.loop-test.false; more = t.1; untouched = t.3.untouched }
+    let t = c.loop-a.invariant in
+    record { reached = reached_letters _ _ _ _ _ _ _ _ _ t.3.reached c.loop-a-test.false; more = t.1; untouched = t.3.untouched }
 
 pub read_state_spec : {M : Type 1} → statement M
 read_state_spec =
     tie.close
-    (tie.spec invariant-loop decreases-loop mul-first slice-read-first cast-first mul-first-2 loop-holds (λ c. omega (arith, within c)) (λ c κs. within c)
-    read-letter-requires add_a loop-less loop-again (λ c. c.before.loop.invariant.3.untouched.past_numbers.size)
-    (λ c. c.before.loop.invariant.3.untouched.past_queue.size) (λ c. c.before.loop.invariant.3.untouched.past_parents.size)
-    (λ c. c.before.loop.invariant.3.untouched.past_letters.size) returns)
+    (tie.spec invariant-loop decreases-loop mul-first slice-read-first cast-first mul-first-2 loop-holds (λ c. omega (arith, within c)) (λ c κs. within c) read-letter-requires add_a loop-less loop-again (λ c. c.loop-a.invariant.3.untouched.past_numbers.size) (λ c. c.loop-a.invariant.3.untouched.past_queue.size) (λ c. c.loop-a.invariant.3.untouched.past_parents.size) (λ c. c.loop-a.invariant.3.untouched.past_letters.size) returns)

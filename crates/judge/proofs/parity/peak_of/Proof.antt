@@ -11,22 +11,22 @@ use Rattle.judge.proofs.Sums.{largest_joins, sums_rest, sums_end}
 use Rattle.judge.proofs.parity.peak_of.Statement.{statement}
 use Rattle.judge.proofs.parity.peak_of.Tie as tie
 
-abbrev invariant-loop : tie.invariant-loop
+abbrev invariant-loop : tie.invariant-loop-i
 invariant-loop peaks peak₀ i₀ peak i = (i ≤ length peaks) × SumsUp ltb (λ x. x) (take i peaks) peak
 
-abbrev decreases-loop : tie.decreases-loop
+abbrev decreases-loop : tie.decreases-loop-i
 decreases-loop peaks peak₀ i₀ peak i = length peaks - i
 
-loop-holds : tie.Need-loop-init invariant-loop decreases-loop
+loop-holds : tie.Need-loop-i-init invariant-loop decreases-loop
 loop-holds c = (search rules, λ k. le-ltb k 0 (omega arith))
 
-loop-again : tie.Need-loop-preserved invariant-loop decreases-loop
+loop-again : tie.Need-loop-i-preserved invariant-loop decreases-loop
 loop-again c =
-    let i = c.before.before.before.loop in
-    (omega arith, λ k. ap (ltb k) c.larger.ensures ∙ sums_rest ltb _ i.i i.peak i.invariant.1 max largest_joins c.before.before.loop-test.true k)
+    let i = c.loop-i in
+    (omega arith, λ k. ap (ltb k) c.larger-peak.ensures ∙ sums_rest ltb _ i.i i.peak i.invariant.1 max largest_joins c.loop-i-test.true k)
 
 returns : tie.Need-returns invariant-loop decreases-loop
-returns c = let i = c.before.loop in sums_end ltb _ i.i i.peak i.invariant.1 c.loop-test.false
+returns c = let i = c.loop-i in sums_end ltb _ i.i i.peak i.invariant.1 c.loop-i-test.false
 
 pub peak_of_spec : {M : Type 1} → statement M
 peak_of_spec =

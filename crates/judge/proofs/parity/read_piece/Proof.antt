@@ -20,19 +20,19 @@ use Rattle.judge.proofs.Pieces.{letter_below, piece_more, read_misses, sums_lett
 use Rattle.judge.proofs.parity.read_piece.Statement.{statement}
 use Rattle.judge.proofs.parity.read_piece.Tie as tie
 
-abbrev invariant-loop : tie.invariant-loop
+abbrev invariant-loop : tie.invariant-loop-i
 invariant-loop rows letters targets priorities piece from place₀ peak₀ i₀ place peak i =
     (i ≤ length piece) × (place < rows) × Path (parity_system rows letters targets) from (take i piece) place
     × SumsUp ltb (priority_at letters priorities) (pass_from (parity_system rows letters targets) from (take i piece)) peak
 
-abbrev decreases-loop : tie.decreases-loop
+abbrev decreases-loop : tie.decreases-loop-i
 decreases-loop rows letters targets priorities piece from place₀ peak₀ i₀ place peak i = length piece - i
 
-loop-holds : tie.Need-loop-init invariant-loop decreases-loop
-loop-holds c = (search rules, c.before.before.before.requires.2, here, λ i. le-ltb i 0 (omega arith))
+loop-holds : tie.Need-loop-i-init invariant-loop decreases-loop
+loop-holds c = (search rules, c.requires.2, here, λ i. le-ltb i 0 (omega arith))
 
 -- a letter is left
-module _ (c : tie.In-loop invariant-loop decreases-loop) where
+module _ (c : tie.In-loop-i invariant-loop decreases-loop) where
   abbrev s : tie.Start invariant-loop decreases-loop
   s = c.before.before.before.before.before
 
@@ -40,19 +40,19 @@ module _ (c : tie.In-loop invariant-loop decreases-loop) where
   system = parity_system s.args.rows s.args.letters s.args.targets.now
 
   abbrev place : ℕ
-  place = c.before.loop.place
+  place = c.loop-i.place
 
   abbrev letter : ℕ
-  letter = get_or s.args.piece.now c.before.loop.i 0
+  letter = get_or s.args.piece.now c.loop-i.i 0
 
   table : ParityFacts s.args.rows s.args.letters s.args.targets.now s.args.priorities.now
-  table = parity_facts _ _ _ _ s.pre.0
+  table = parity_facts _ _ _ _ s.requires.0
 
   letter_ok : letter < s.args.letters
-  letter_ok = letter_below _ s.args.piece.now s.pre.1 _ c.loop-test.true
+  letter_ok = letter_below _ s.args.piece.now s.requires.1 _ c.loop-i-test.true
 
   within : place * s.args.letters + letter < s.args.rows * s.args.letters
-  within = cell_within _ _ _ _ c.before.loop.invariant.1 letter_ok
+  within = cell_within _ _ _ _ c.loop-i.invariant.1 letter_ok
 
   -- the entry in the letter's column is where the transition goes
   abbrev found : ℕ
@@ -64,62 +64,60 @@ module _ (c : tie.In-loop invariant-loop decreases-loop) where
   goes : system.go place letter ≡ found
   goes = get_d_any s.args.targets.now (place * s.args.letters + letter) no_row 0 (omega (arith, within, table.target_cells_lem)) ∙ sym cell_found
 
-cast-letter : tie.Need-overflow-cast-letter invariant-loop decreases-loop
+cast-letter : tie.Need-overflow_cast-letter invariant-loop decreases-loop
 cast-letter c = omega (arith, letter_ok c.before, (table c.before).most_letters)
 
-mul-first : tie.Need-overflow-mul-first invariant-loop decreases-loop
+mul-first : tie.Need-overflow_mul-first invariant-loop decreases-loop
 mul-first c = omega (arith, within c.before, (table c.before).most_cells)
 
-mul-column : tie.Need-overflow-mul-column invariant-loop decreases-loop
+mul-column : tie.Need-offset_bounds-targets-letter invariant-loop decreases-loop
 mul-column c = omega (arith, letter_ok c.before, (table c.before).most_letters)
 
-sub-column : tie.Need-overflow-sub-column invariant-loop decreases-loop
+sub-column : tie.Need-slice_bounds-column-count invariant-loop decreases-loop
 sub-column c = omega (arith, within c.before, (table c.before).target_cells_lem)
 
-part-column-start : tie.Need-slice-bounds-column-start invariant-loop decreases-loop
+part-column-start : tie.Need-slice_bounds-column-start invariant-loop decreases-loop
 part-column-start c = omega (arith, within c.before, (table c.before).target_cells_lem)
 
-part-column-end : tie.Need-slice-bounds-column-end invariant-loop decreases-loop
+part-column-end : tie.Need-slice_bounds-column-end invariant-loop decreases-loop
 part-column-end c = omega (arith, within c.before, (table c.before).target_cells_lem)
 
-mul-target : tie.Need-overflow-mul-target invariant-loop decreases-loop
+mul-target : tie.Need-offset_bounds-column-first invariant-loop decreases-loop
 mul-target c = omega (arith, within c.before.before, (table c.before.before).most_cells)
 
-shared-slice-read-target : tie.Need-shared-slice-read-target invariant-loop decreases-loop
+shared-slice-read-target : tie.Need-bounds-column-first invariant-loop decreases-loop
 shared-slice-read-target c =
     let t = c.before.before.before in omega (arith, within t, (table t).target_cells_lem, column_long (s t).args.targets.now (letter t) (omega (arith, within t, (table t).target_cells_lem)))
 
-cast-target : tie.Need-overflow-cast-target invariant-loop decreases-loop
+cast-target : tie.Need-overflow_cast-target invariant-loop decreases-loop
 cast-target c =
-    let t = c.before.before.before in omega (arith, c.shared-slice-known5.given (place t * (s t).args.letters))
+    let t = c.before.before.before in omega (arith, c.shared_slice_known-in-loop-i-2-1.given (place t * (s t).args.letters))
 
-returns : tie.Need-returns invariant-loop decreases-loop
+returns : tie.Need-returns-then-rows-target invariant-loop decreases-loop
 returns c =
     let t = c.before.before.before.before in
-    let gone = c.if1.true in
-    (record { leads = λ l. absurd (omega (arith, gone, l)); misses = λ l. read_misses (system t) _ _ _ _ t.before.loop.invariant.2 t.loop-test.true (letter_ok t) (subst⁻¹ (λ (z : ℕ). (s t).args.rows ≤ z) (goes t) gone) }, λ l. absurd (omega (arith, gone, l)))
+    let gone = c.if-rows-target.true in
+    (record { leads = λ l. absurd (omega (arith, gone, l)); misses = λ l. read_misses (system t) _ _ _ _ t.loop-i.invariant.2 t.loop-i-test.true (letter_ok t) (subst⁻¹ (λ (z : ℕ). (s t).args.rows ≤ z) (goes t) gone) }, λ l. absurd (omega (arith, gone, l)))
 
-add-larger : tie.Need-overflow-add-larger invariant-loop decreases-loop
+add-larger : tie.Need-overflow_add-first invariant-loop decreases-loop
 add-larger c = omega (arith, within c.before.before.before.before, (table c.before.before.before.before).most_cells)
 
-shared-slice-read-larger : tie.Need-shared-slice-read-larger invariant-loop decreases-loop
+shared-slice-read-larger : tie.Need-bounds-priorities-first invariant-loop decreases-loop
 shared-slice-read-larger c = omega (arith, within c.before.before.before.before.before, (table c.before.before.before.before.before).priority_cells)
 
-loop-again : tie.Need-loop-preserved invariant-loop decreases-loop
+loop-again : tie.Need-loop-i-preserved invariant-loop decreases-loop
 loop-again c =
     let t = c.before.before.before.before.before.before in
-    let on = c.before.before.if1.false in
-    (omega arith, on, subst (Path (system t) (s t).args.from _) (goes t) (piece_more (system t) _ _ _ _ t.before.loop.invariant.2 t.loop-test.true (letter_ok t) (subst⁻¹ (λ (z : ℕ). z < (s t).args.rows) (goes t) on)), λ k. ap (ltb k) c.larger.ensures ∙ sums_letter (system t) _ _ _ _ t.before.loop.invariant.2 t.loop-test.true ltb (priority_at (s t).args.letters (s t).args.priorities.now) max largest_joins _ t.before.loop.invariant.3 k)
+    let on = c.if-rows-target.false in
+    (omega arith, on, subst (Path (system t) (s t).args.from _) (goes t) (piece_more (system t) _ _ _ _ t.loop-i.invariant.2 t.loop-i-test.true (letter_ok t) (subst⁻¹ (λ (z : ℕ). z < (s t).args.rows) (goes t) on)), λ k. ap (ltb k) c.larger-peak.ensures ∙ sums_letter (system t) _ _ _ _ t.loop-i.invariant.2 t.loop-i-test.true ltb (priority_at (s t).args.letters (s t).args.priorities.now) max largest_joins _ t.loop-i.invariant.3 k)
 
-returns_2 : tie.Need-returns-2 invariant-loop decreases-loop
+returns_2 : tie.Need-returns invariant-loop decreases-loop
 returns_2 c =
-    let i = c.before.loop.invariant in
-    let whole = take_all c.before.loop.i c.before.before.before.before.before.args.piece.now c.loop-test.false in
+    let i = c.loop-i.invariant in
+    let whole = take_all c.loop-i.i c.args.piece.now c.loop-i-test.false in
     (record { leads = λ l. rw whole at i.2; misses = λ l. absurd (omega (arith, i.1, l)) }, λ l. rw whole at i.3)
 
 pub read_piece_spec : {M : Type 1} → statement M
 read_piece_spec =
     tie.close
-    (tie.spec invariant-loop decreases-loop loop-holds (λ c. omega arith) cast-letter mul-first mul-column sub-column part-column-start part-column-end mul-target
-    shared-slice-read-target cast-target returns add-larger shared-slice-read-larger (λ c κs. tt) (λ c. omega arith) (λ c. omega arith) loop-again
-    returns_2)
+    (tie.spec invariant-loop decreases-loop loop-holds (λ c. omega arith) cast-letter mul-first mul-column sub-column part-column-start part-column-end mul-target shared-slice-read-target cast-target returns add-larger shared-slice-read-larger (λ c κs. tt) (λ c. omega arith) (λ c. omega arith) loop-again returns_2)

@@ -6,9 +6,9 @@ use Rattle.rules.proofs.Refusals.{parity_facts}
 use Rattle.judge.proofs.sizes.judge_large.Statement.{statement}
 use Rattle.judge.proofs.sizes.judge_large.Tie as tie
 
-judge-word-requires : tie.Need-judge-word-requires
+judge-word-requires : tie.Need-judge_word-requires
 judge-word-requires c κs =
-    let s = c.before.before.before.before.before.before in
+    let s = c in
     let p = s.requires in
     let most = (parity_facts s.args.rows s.args.letters s.args.targets.now s.args.priorities.now p.0).most_rows in
     (p.0, p.1, record { enough = most; none = zeros_at max_rows }, most)

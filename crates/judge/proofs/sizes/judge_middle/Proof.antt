@@ -5,9 +5,9 @@ use Rattle.judge.specs.Sizes.{middle_rows}
 use Rattle.judge.proofs.sizes.judge_middle.Statement.{statement}
 use Rattle.judge.proofs.sizes.judge_middle.Tie as tie
 
-judge-word-requires : tie.Need-judge-word-requires
+judge-word-requires : tie.Need-judge_word-requires
 judge-word-requires c κs =
-    let p = c.before.before.before.before.before.before.requires in
+    let p = c.requires in
     (p.0, p.1, record { enough = p.2; none = zeros_at middle_rows }, p.2)
 
 pub judge_middle_spec : {M : Type 1} → statement M

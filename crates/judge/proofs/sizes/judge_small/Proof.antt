@@ -5,9 +5,9 @@ use Rattle.judge.specs.Sizes.{small_rows}
 use Rattle.judge.proofs.sizes.judge_small.Statement.{statement}
 use Rattle.judge.proofs.sizes.judge_small.Tie as tie
 
-judge-word-requires : tie.Need-judge-word-requires
+judge-word-requires : tie.Need-judge_word-requires
 judge-word-requires c κs =
-    let p = c.before.before.before.before.before.before.requires in
+    let p = c.requires in
     (p.0, p.1, record { enough = p.2; none = zeros_at small_rows }, p.2)
 
 pub judge_small_spec : {M : Type 1} → statement M

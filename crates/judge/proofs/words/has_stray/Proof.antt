@@ -10,22 +10,22 @@ use Rattle.rules.proofs.Sets.{any_turn, any_end}
 use Rattle.judge.proofs.words.has_stray.Statement.{statement}
 use Rattle.judge.proofs.words.has_stray.Tie as tie
 
-abbrev invariant-loop : tie.invariant-loop
+abbrev invariant-loop : tie.invariant-loop-i
 invariant-loop m piece stray₀ i₀ stray i = (i ≤ length piece) × (stray || stray_letter m (drop i piece) ≡ stray_letter m piece)
 
-abbrev decreases-loop : tie.decreases-loop
+abbrev decreases-loop : tie.decreases-loop-i
 decreases-loop m piece stray₀ i₀ stray i = length piece - i
 
-loop-holds : tie.Need-loop-init invariant-loop decreases-loop
+loop-holds : tie.Need-loop-i-init invariant-loop decreases-loop
 loop-holds c = (search rules, refl)
 
-loop-again : tie.Need-loop-preserved invariant-loop decreases-loop
+loop-again : tie.Need-loop-i-preserved invariant-loop decreases-loop
 loop-again c =
-    let i = c.before.before.loop in
-    (omega arith, any_turn _ i.stray _ i.i c.before.loop-test.true ∙ i.invariant.1)
+    let i = c.loop-i in
+    (omega arith, any_turn _ i.stray _ i.i c.loop-i-test.true ∙ i.invariant.1)
 
 returns : tie.Need-returns invariant-loop decreases-loop
-returns c = any_end _ _ _ _ c.loop-test.false c.before.loop.invariant.1
+returns c = any_end _ _ _ _ c.loop-i-test.false c.loop-i.invariant.1
 
 pub has_stray_spec : {M : Type 1} → statement M
 has_stray_spec = tie.close (tie.spec invariant-loop decreases-loop loop-holds (λ c. omega arith) (λ c. omega arith) (λ c. omega arith) loop-again returns)

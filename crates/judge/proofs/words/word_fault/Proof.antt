@@ -3,18 +3,18 @@ use borrow.Author.Rules.{rules}
 use Rattle.judge.proofs.words.word_fault.Statement.{statement}
 use Rattle.judge.proofs.words.word_fault.Tie as tie
 
-returns : tie.Need-returns
-returns c = rw c.if1.true
+returns : tie.Need-returns-then-looped-lead
+returns c = rw c.if-looped-lead.true
 
-returns_2 : tie.Need-returns-2
+returns_2 : tie.Need-returns-then-stray_lead-stray_loop
 returns_2 c =
-    let strays = c.before in
-    rw (strays.before.before.if1.false, ← strays.before.has-stray.ensures, ← strays.has-stray2.ensures, c.if2.true)
+    let strays = c in
+    rw (strays.if-looped-lead.false, ← strays.has_stray-stray_lead.ensures, ← strays.has_stray-stray_loop.ensures, c.if-stray_lead-stray_loop.true)
 
-returns-3 : tie.Need-returns-3
+returns-3 : tie.Need-returns
 returns-3 c =
-    let strays = c.before in
-    rw (strays.before.before.if1.false, ← strays.before.has-stray.ensures, ← strays.has-stray2.ensures, c.if2.false)
+    let strays = c in
+    rw (strays.if-looped-lead.false, ← strays.has_stray-stray_lead.ensures, ← strays.has_stray-stray_loop.ensures, c.if-stray_lead-stray_loop.false)
 
 pub word_fault_spec : {M : Type 1} → statement M
 word_fault_spec = tie.close (tie.spec returns (λ c κs. search rules) (λ c κs. search rules) returns_2 returns-3)

@@ -9,13 +9,13 @@ use Rattle.records.proofs.Packing.{moved_joined, moved_small, places_below}
 use Rattle.records.proofs.Record.moved.Statement.{statement}
 use Rattle.records.proofs.Record.moved.Tie as tie
 
-joined : (c : tie.After-rear) → let s = c.before.before.args in
-    c.before.front.result + c.rear.result ≡ packed (moved as_they_stood (is_marked s.mask) (places s.self.code))
+joined : (c : tie.After-rear-rear) → let s = c.before.before.args in
+    c.before.front-front.result + c.rear-rear.result ≡ packed (moved as_they_stood (is_marked s.mask) (places s.self.code))
 joined c =
     let s = c.before.before.args in
-    moved_joined (is_marked s.mask) (places s.self.code) c.before.front.result c.rear.result c.before.front.ensures c.rear.ensures
+    moved_joined (is_marked s.mask) (places s.self.code) c.before.front-front.result c.rear-rear.result c.before.front-front.ensures c.rear-rear.ensures
 
-add-t5 : tie.Need-overflow-add-t5
+add-t5 : tie.Need-overflow_add-result
 add-t5 c =
     let s = c.before.before.args in
     omega (arith, joined c, moved_small (is_marked s.mask) (places s.self.code) 6 (places_below 6 s.self.code) (omega arith))

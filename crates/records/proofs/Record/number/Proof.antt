@@ -15,35 +15,35 @@ use Rattle.records.proofs.Packing.{pair_below, digit_turn, digit_below}
 use Rattle.records.proofs.Record.number.Statement.{statement}
 use Rattle.records.proofs.Record.number.Tie as tie
 
-abbrev invariant-loop : tie.invariant-loop
+abbrev invariant-loop : tie.invariant-loop-p
 invariant-loop self number₀ p₀ number p =
     (10 * suc number ≤ 10 ^ p) × (decimal_from number (keep is_pair (drop p (0 ∷ places self.code))) ≡ decimal (pairs_in self.code))
 
-abbrev decreases-loop : tie.decreases-loop
+abbrev decreases-loop : tie.decreases-loop-p
 decreases-loop self number₀ p₀ number p = 7 - p
 
-loop-holds : tie.Need-loop-init invariant-loop decreases-loop
+loop-holds : tie.Need-loop-p-init invariant-loop decreases-loop
 loop-holds c = (omega arith, refl)
 
-with-digit-requires : tie.Need-with-digit-requires invariant-loop decreases-loop
+with-digit-requires : tie.Need-with_digit-number-requires invariant-loop decreases-loop
 with-digit-requires c κs =
-    let p : ℕ = c.before.before.loop.p in
+    let p : ℕ = c.before.before.loop-p.p in
     let w : ℕ = c.before.before.before.args.self.code in
-    (omega (arith, pow-le-pow_right {n = 10} (lit< tt) {i = p} {j = 6} (omega arith)), omega (arith, c.pair-at.ensures, pair_below 6 w p))
+    (omega (arith, pow-le-pow_right {n = 10} (lit< tt) {i = p} {j = 6} (omega arith)), omega (arith, c.pair_at.ensures, pair_below 6 w p))
 
-loop-again : tie.Need-loop-preserved invariant-loop decreases-loop
+loop-again : tie.Need-loop-p-preserved invariant-loop decreases-loop
 loop-again c =
     let w : ℕ = c.before.before.before.before.args.self.code in
-    let turn = c.before.before.before.loop in
+    let turn = c.before.before.before.loop-p in
     let p : ℕ = turn.p in
-    let pair = c.before.pair-at in
-    let made = c.with-digit in
+    let pair = c.before.pair_at in
+    let made = c.with_digit-number in
     rw (add-one p)
     (digit_below p pair.result.0 turn.number made.result (omega (arith, pair.ensures, pair_below 6 w p)) turn.invariant.0 made.ensures, digit_turn (places w) p pair.result.0 (omega arith) pair.ensures turn.number made.result made.ensures ∙ turn.invariant.1)
 
 returns : tie.Need-returns invariant-loop decreases-loop
 returns c =
-    let turn = c.before.loop in
+    let turn = c.before.loop-p in
     let o : List ℕ = places c.before.before.args.self.code in
     sym (ap (λ (z : List ℕ). decimal_from turn.number (keep is_pair z)) (drop_of_length-le (0 ∷ o) {i = turn.p} (omega arith))) ∙ turn.invariant.1
 

@@ -16,38 +16,38 @@ use Rattle.records.proofs.Record.rear.Tie as tie
 abbrev stays : ℕ → ℕ → Bool
 stays mask i = not (is_marked mask i)
 
-abbrev invariant-loop : tie.invariant-loop
+abbrev invariant-loop : tie.invariant-loop-p
 invariant-loop self mask code₀ p₀ code p =
     (code < 262144) × (in_rear (stays mask) code (drop p (0 ∷ places self.code)) ≡ in_rear (stays mask) 0 (places self.code))
 
-abbrev decreases-loop : tie.decreases-loop
+abbrev decreases-loop : tie.decreases-loop-p
 decreases-loop self mask code₀ p₀ code p = 7 - p
 
 -- the pair that a turn has read
-pair_small : (c : tie.After-pair-at invariant-loop decreases-loop) → c.pair-at.result.0 < 8
-pair_small c = omega (arith, c.pair-at.ensures, pair_below 6 c.before.before.before.args.self.code c.before.before.loop.p)
+pair_small : (c : tie.After-pair_at-pair invariant-loop decreases-loop) → c.pair_at-pair.result.0 < 8
+pair_small c = omega (arith, c.pair_at-pair.ensures, pair_below 6 c.before.before.before.args.self.code c.before.before.loop-p.p)
 
-loop-holds : tie.Need-loop-init invariant-loop decreases-loop
+loop-holds : tie.Need-loop-p-init invariant-loop decreases-loop
 loop-holds c = (omega arith, refl)
 
-with-last-requires : tie.Need-with-last-requires invariant-loop decreases-loop
-with-last-requires c κs = (c.before.before.before.loop.invariant.0, pair_small c.before)
+with-last-requires : tie.Need-with_last-code-requires invariant-loop decreases-loop
+with-last-requires c κs = (c.before.before.before.loop-p.invariant.0, pair_small c.before)
 
-loop-again : tie.Need-loop-preserved invariant-loop decreases-loop
+loop-again : tie.Need-loop-p-preserved invariant-loop decreases-loop
 loop-again c =
     let s = c.before.before.before.before.before.args in
-    let turn = c.before.before.before.before.loop in
-    let pair = c.before.before.pair-at in
-    let is-in = c.before.is-in in (
-      rear_below (not is-in.result) turn.code pair.result.0 c.with-last.result turn.invariant.0 (pair_small c.before.before) c.with-last.ensures,
+    let turn = c.before.before.before.before.loop-p in
+    let pair = c.before.before.pair_at-pair in
+    let is-in = c.before.is_in in (
+      rear_below (not is-in.result) turn.code pair.result.0 c.with_last-code.result turn.invariant.0 (pair_small c.before.before) c.with_last-code.ensures,
       rw (add-one turn.p)
-          (rear_turn (places s.self.code) turn.p pair.result.0 (omega arith) pair.ensures (stays s.mask) (not is-in.result) (ap not is-in.ensures) turn.code c.with-last.result c.with-last.ensures ∙ turn.invariant.1),
+          (rear_turn (places s.self.code) turn.p pair.result.0 (omega arith) pair.ensures (stays s.mask) (not is-in.result) (ap not is-in.ensures) turn.code c.with_last-code.result c.with_last-code.ensures ∙ turn.invariant.1),
     )
 
 returns : tie.Need-returns invariant-loop decreases-loop
 returns c =
     let s = c.before.before.args in
-    let turn = c.before.loop in
+    let turn = c.before.loop-p in
     let o : List ℕ = places s.self.code in
     sym (ap (in_rear (stays s.mask) turn.code) (drop_of_length-le (0 ∷ o) {i = turn.p} (omega arith)))
     ∙ turn.invariant.1 ∙ rear_code (is_marked s.mask) o (places_length 6 s.self.code)

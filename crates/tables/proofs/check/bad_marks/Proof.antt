@@ -19,42 +19,42 @@ use Rattle.tables.proofs.check.bad_marks.Tie as tie
 top : (k : ℕ) → k ≤ max_pairs → (1 * 2 ^ k % 2 ^ 16 ≡ 2 ^ k) × (0 < 2 ^ k) × (2 ^ k ≤ 256)
 top k l = (one_shifted 16 k (omega arith), pow_pos k, pow_mono {j = 8} (omega arith))
 
-abbrev invariant-loop : tie.invariant-loop
+abbrev invariant-loop : tie.invariant-loop-c
 invariant-loop targets marks k high above bad₀ c₀ bad c =
     (c ≤ length targets) × (bad || bad_marks k (drop c targets) (drop (2 * c) marks) ≡ bad_marks k targets marks)
 
-abbrev decreases-loop : tie.decreases-loop
+abbrev decreases-loop : tie.decreases-loop-c
 decreases-loop targets marks k high above bad₀ c₀ bad c = length targets - c
 
-sub-high : tie.Need-overflow-sub-high invariant-loop decreases-loop
+sub-high : tie.Need-overflow_sub-high invariant-loop decreases-loop
 sub-high c = let s = c.before.before in omega (arith, top s.args.k s.requires.1)
 
-mul-above : tie.Need-overflow-mul-above invariant-loop decreases-loop
+mul-above : tie.Need-overflow_mul-above invariant-loop decreases-loop
 mul-above c = let s = c.before.before in omega (arith, top s.args.k s.requires.1)
 
-add-above : tie.Need-overflow-add-above invariant-loop decreases-loop
+add-above : tie.Need-overflow_add-above invariant-loop decreases-loop
 add-above c = let s = c.before.before in omega (arith, top s.args.k s.requires.1)
 
-loop-holds : tie.Need-loop-init invariant-loop decreases-loop
+loop-holds : tie.Need-loop-c-init invariant-loop decreases-loop
 loop-holds c = (search rules, refl)
 
-loop-again : tie.Need-loop-preserved invariant-loop decreases-loop
+loop-again : tie.Need-loop-c-preserved invariant-loop decreases-loop
 loop-again c =
     let s = c.before.before.before.before.before.before.before.before.before in
-    let i = c.before.before.before.before.before.before.loop in
+    let i = c.before.before.before.before.before.before.loop-c in
     let k = s.args.k in
     let ts = s.args.targets.now in
     let ms = s.args.marks.now in
     let x = get_or ts i.c 0 in
     let u = get_or ms (2 * i.c) 0 in
     let v = get_or ms (2 * i.c + 1) 0 in
-    let bytes = c.before.before.before.before.before.before.before.shared-slice-known2.given in
+    let bytes = c.before.before.before.before.before.before.before.shared_slice_known-2-1.given in
     let cell = mask_tested k x u v s.requires.1 (omega (arith, bytes (2 * i.c))) (omega (arith, bytes (2 * i.c + 1))) in
-    let word : not (eqb (bit_and c.before.before.mask-of.result c.barred-bits.result) 0) ≡ bad_mark k x u v = rw (c.before.before.mask-of.ensures, c.barred-bits.ensures, (top k s.requires.1).0) cell in
+    let word : not (eqb (bit_and c.before.before.mask_of-mask.result c.barred_bits.result) 0) ≡ bad_mark k x u v = rw (c.before.before.mask_of-mask.ensures, c.barred_bits.ensures, (top k s.requires.1).0) cell in
     (omega arith, rw word (marks_turn k i.bad ts ms i.c (omega arith)) ∙ i.invariant.1)
 
 returns : tie.Need-returns invariant-loop decreases-loop
-returns c = marks_end _ _ _ _ _ c.loop-test.false c.before.loop.invariant.1
+returns c = marks_end _ _ _ _ _ c.loop-c-test.false c.before.loop-c.invariant.1
 
 pub bad_marks_spec : {M : Type 1} → statement M
 bad_marks_spec =

@@ -11,21 +11,21 @@ use Rattle.rules.proofs.Sets.{any_turn, any_end}
 use Rattle.tables.proofs.check.bad_targets.Statement.{statement}
 use Rattle.tables.proofs.check.bad_targets.Tie as tie
 
-abbrev invariant-loop : tie.invariant-loop
+abbrev invariant-loop : tie.invariant-loop-c
 invariant-loop targets n bad₀ c₀ bad c = (c ≤ length targets) × (bad || bad_targets n no_state (drop c targets) ≡ bad_targets n no_state targets)
 
-abbrev decreases-loop : tie.decreases-loop
+abbrev decreases-loop : tie.decreases-loop-c
 decreases-loop targets n bad₀ c₀ bad c = length targets - c
 
-loop-holds : tie.Need-loop-init invariant-loop decreases-loop
+loop-holds : tie.Need-loop-c-init invariant-loop decreases-loop
 loop-holds c = (search rules, refl)
 
-loop-again : tie.Need-loop-preserved invariant-loop decreases-loop
+loop-again : tie.Need-loop-c-preserved invariant-loop decreases-loop
 loop-again c =
-    let i = c.before.before.loop in (omega arith, any_turn _ i.bad _ i.c c.before.loop-test.true ∙ i.invariant.1)
+    let i = c.before.before.loop-c in (omega arith, any_turn _ i.bad _ i.c c.before.loop-c-test.true ∙ i.invariant.1)
 
 returns : tie.Need-returns invariant-loop decreases-loop
-returns c = any_end _ _ _ _ c.loop-test.false c.before.loop.invariant.1
+returns c = any_end _ _ _ _ c.loop-c-test.false c.before.loop-c.invariant.1
 
 pub bad_targets_spec : {M : Type 1} → statement M
 bad_targets_spec = tie.close (tie.spec invariant-loop decreases-loop loop-holds (λ c. omega arith) (λ c. omega arith) (λ c. omega arith) loop-again returns)
