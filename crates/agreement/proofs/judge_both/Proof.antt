@@ -7,7 +7,7 @@ use Rattle.agreement.proofs.judge_both.Statement.{statement}
 use Rattle.agreement.proofs.judge_both.Tie as tie
 
 cast-letters : tie.Need-overflow-cast-letters
-cast-letters c = omega (arith, c.letters-of.type-inv)
+cast-letters c = omega (arith, c.letters-of.type_inv)
 
 returns : tie.Need-returns
 returns c =

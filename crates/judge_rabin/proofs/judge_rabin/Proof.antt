@@ -22,37 +22,36 @@ promised : (bs lead l : List ℕ) {x : Answer} → RabinSays bs lead l x → Rab
 promised bs lead l says = (says, rabin_means bs lead l _ says)
 
 -- the refusal, of the table or of the word
-module _ (c : tie.After-first-fault) where
+module _ (c : tie.After-first_fault-refused) where
   abbrev start : tie.Start
   start = c.before.before.before.before.before.before.before
 
-  refusal : c.first-fault.result ≡ first_of (table_fault start.args.table.now) (word_fault (table_of start.args.table.now).letters start.args.lead.now start.args.looped.now)
+  refusal : c.first_fault-refused.result ≡ first_of (table_fault start.args.table.now) (word_fault (table_of start.args.table.now).letters start.args.lead.now start.args.looped.now)
   refusal =
-      c.first-fault.ensures ∙ first_same c.before.before.before.check-table.ensures (c.before.word-fault.ensures ∙ ap (λ (m : ℕ). word_fault m start.args.lead.now start.args.looped.now) c.before.before.letters-of.ensures)
+      c.first_fault-refused.ensures ∙ first_same c.check_table-table_fault.ensures (c.word_fault-word_fault.ensures ∙ ap (λ (m : ℕ). word_fault m start.args.lead.now start.args.looped.now) c.letters_of.ensures)
 
 -- nothing is refused
-unrefused : (c : tie.Else1) → let s = start c.before in WellFormed s.args.table.now × (word_fault (table_of s.args.table.now).letters s.args.lead.now s.args.looped.now ≡ 0)
-unrefused c = first_zero _ _ (sym (refusal c.before) ∙ c.if1.false)
+unrefused : (c : tie.Else-refused-ne0) → let s = start c.before in WellFormed s.args.table.now × (word_fault (table_of s.args.table.now).letters s.args.lead.now s.args.looped.now ≡ 0)
+unrefused c = first_zero _ _ (sym (refusal c.before) ∙ c.if-refused-ne0.false)
 
-returns : tie.Need-returns
-returns c = let a = (start c.before).args in promised a.table.now a.lead.now a.looped.now (rw (← refusal c.before) (refused_given _ _ c.if1.true))
+returns : tie.Need-returns-then-refused-ne0
+returns c = let a = (start c.before).args in promised a.table.now a.lead.now a.looped.now (rw (← refusal c.before) (refused_given _ _ c.if-refused-ne0.true))
 
-judge-word-requires : tie.Need-judge-word-requires
+judge-word-requires : tie.Need-judge_word-requires
 judge-word-requires c κs =
     let t = unrefused c.before.before.before in
     let n = (table_facts _ t.0).sizes.most_states in
     (t.0, t.1, record { enough = n; none = zeros_at max_states }, n, n)
 
-returns_2 : tie.Need-returns-2
+returns_2 : tie.Need-returns
 returns_2 c =
-    let w = c.before.before.before in
-    let e : tie.Else1 = w.before.before.before.before in
+    let w = c in
+    let e : tie.Else-refused-ne0 = w.before.before.before.before.before.before.before in
     let t = unrefused e in
     let a = (start e.before).args in
-    promised a.table.now a.lead.now a.looped.now (rw (t.0, t.1) w.judge-word.ensures)
+    promised a.table.now a.lead.now a.looped.now (rw (t.0, t.1) w.judge_word.ensures)
 
 pub judge_rabin_spec : {M : Type 1} → statement M
 judge_rabin_spec =
     tie.close
-    (tie.spec (λ c κs. search rules) (λ c κs. search rules) (λ c κs. search rules) (λ c κs. search rules) returns (λ c. search rules)
-    (λ c. search rules) (λ c. search rules) judge-word-requires returns_2)
+    (tie.spec (λ c κs. search rules) (λ c κs. search rules) (λ c κs. search rules) (λ c κs. search rules) returns (λ c. search rules) (λ c. search rules) (λ c. search rules) judge-word-requires returns_2)

@@ -22,73 +22,68 @@ use Rattle.survey.proofs.find_components.Statement.{statement}
 use Rattle.survey.proofs.find_components.Tie as tie
 
 -- what the first test leaves
-module _ (c : tie.Else1) where
+module _ (c : tie.Else-refused-ne0) where
   abbrev bytes : List ℕ
-  bytes = c.before.before.before.before.args.table.now
+  bytes = c.args.table.now
 
   formed : WellFormed bytes
-  formed = sym c.before.check-table.ensures ∙ c.if1.false
+  formed = sym c.check_table-refused.ensures ∙ c.if-refused-ne0.false
 
   known : TableFacts bytes
   known = table_facts bytes formed
 
-returns : tie.Need-returns
-returns c = components_promised (components_refused _ _ _ c.before.check-table.ensures c.if1.true)
+returns : tie.Need-returns-then-refused-ne0
+returns c = components_promised (components_refused _ _ _ c.check_table-refused.ensures c.if-refused-ne0.true)
 
-returns_2 : tie.Need-returns-2
-returns_2 c = components_promised (components_short _ (formed c.before.before) _ c.if2.true)
+returns_2 : tie.Need-returns-then-out-n
+returns_2 c = components_promised (components_short _ (formed c.before.before) _ c.if-out-n.true)
 
-lay-targets-requires : tie.Need-lay-targets-requires
+lay-targets-requires : tie.Need-lay_targets-requires
 lay-targets-requires c κs =
-    let e : tie.Else1 = c.before.before.before.before.before in
+    let e : tie.Else-refused-ne0 = c.before.before.before.before.before in
     rw (targets_part (bytes e)) (omega (arith, known e, target_count (bytes e) (formed e)))
 
 -- the targets are laid out
-module _ (c : tie.After-lay-targets) where
-  abbrev first : tie.Else1
+module _ (c : tie.After-lay_targets) where
+  abbrev first : tie.Else-refused-ne0
   first = c.before.before.before.before.before.before
 
   abbrev targets : List ℕ
-  targets = c.lay-targets.new.1.0
+  targets = c.lay_targets.new.targets
 
   laid : TargetsLaid (table_of (bytes first)) targets
   laid =
       let bs = bytes first in
-      let room : (table_of bs).states * (table_of bs).letters ≤ length targets = omega (arith, c.lay-targets.auto.1.0, known first) in
-      targets_laid bs (formed first) _ targets room (targets_written bs (formed first) _ _ targets (targets_part bs) c.lay-targets.ensures)
+      let room : (table_of bs).states * (table_of bs).letters ≤ length targets = omega (arith, c.lay_targets.auto.targets, known first) in
+      targets_laid bs (formed first) _ targets room (targets_written bs (formed first) _ _ targets (targets_part bs) c.lay_targets.ensures)
 
-find-homes-requires : tie.Need-find-homes-requires
+find-homes-requires : tie.Need-find_homes-requires
 find-homes-requires c κs =
     let l = c.before.before.before in
     let k = known c.before.before.before.before.before.before.before.before.before in
     (k.sizes.most_states, k.sizes.most_letters, (laid l).enough, k.sizes.most_states)
 
 -- the components are found
-homes_listed : (c : tie.After-find-homes) → let bs = bytes c.before.before.before.before.before.before.before.before.before.before in Listed (states_of bs) (component_of (system_in bs)) c.find-homes.new.1.1.1.0
+homes_listed : (c : tie.After-find_homes) → let bs = bytes c.before.before.before.before.before.before.before.before.before.before in Listed (states_of bs) (component_of (system_in bs)) c.find_homes.new.homes
 homes_listed c =
     let l = c.before.before.before.before in
     let e = first l in
-    laid_homes (table_of (bytes e)) (is_table (bytes e) (formed e)) (targets l) (laid l) _ _ (omega (arith, c.find-homes.auto.1.1.1.0, known e)) c.find-homes.ensures
+    laid_homes (table_of (bytes e)) (is_table (bytes e) (formed e)) (targets l) (laid l) _ _ (omega (arith, c.find_homes.auto.homes, known e)) c.find_homes.ensures
 
 narrow-requires : tie.Need-narrow-requires
 narrow-requires c κs =
     let h = homes_listed c.before.before.before in
-    let e : tie.Else1 = c.before.before.before.before.before.before.before.before.before.before.before.before.before in
-    (h.enough, c.before.before.before.before.before.before.before.before.before.before.before.if2.false, λ q l. rw (h.entry q l) (omega (arith, component_below (system_in (bytes e)) q l, known e)))
+    let e : tie.Else-refused-ne0 = c.before.before.before.before.before.before.before.before.before.before.before.before.before in
+    (h.enough, c.if-out-n.false, λ q l. rw (h.entry q l) (omega (arith, component_below (system_in (bytes e)) q l, known e)))
 
-returns-3 : tie.Need-returns-3
+returns-3 : tie.Need-returns
 returns-3 c =
-    let e : tie.Else1 = c.before.before.before.before.before.before.before.before.before.before.before.before.before.before.before.before in
+    let e : tie.Else-refused-ne0 = c.before.before.before.before.before.before.before.before.before.before.before.before.before.before.before.before in
     let h = homes_listed c.before.before.before.before.before.before in
     let same = tabulate_same _ (component_of (system_in (bytes e))) (states_of (bytes e)) 0 (λ q l u. h.entry q (omega arith)) in
-    components_promised (components_found _ (formed e) _ _ c.before.before.before.before.before.before.before.before.before.before.before.before.before.before.if2.false (c.before.before.narrow.ensures ∙ ap (λ (xs : List ℕ). over xs c.before.before.before.before.before.before.before.before.before.before.before.before.before.before.before.before.before.before.before.before.args.out.now) same))
+    components_promised (components_found _ (formed e) _ _ c.if-out-n.false (c.narrow.ensures ∙ ap (λ (xs : List ℕ). over xs c.args.out.now) same))
 
 pub find_components_spec : {M : Type 1} → statement M
 find_components_spec =
     tie.close
-    (tie.spec (λ c κs. search rules) returns (λ c. omega (arith, known c.before)) (λ c. omega (arith, known c.before)) returns_2
-    (λ c. omega (arith, known c.before.before.before)) (λ c. omega (arith, known c.before.before.before))
-    (λ c. omega (arith, known c.before.before.before)) (λ c. omega (arith, known c.before.before.before))
-    (λ c. omega (arith, known c.before.before.before)) (λ c. omega (arith, known c.before.before.before))
-    (λ c. omega (arith, known c.before.before.before)) (λ c. search rules) lay-targets-requires (λ c. search rules) (λ c. search rules)
-    find-homes-requires (λ c. search rules) narrow-requires (λ c. search rules) returns-3)
+    (tie.spec (λ c κs. search rules) returns (λ c. omega (arith, known c.before)) (λ c. omega (arith, known c.before)) returns_2 (λ c. omega (arith, known c.before.before.before)) (λ c. omega (arith, known c.before.before.before)) (λ c. omega (arith, known c.before.before.before)) (λ c. omega (arith, known c.before.before.before)) (λ c. omega (arith, known c.before.before.before)) (λ c. omega (arith, known c.before.before.before)) (λ c. omega (arith, known c.before.before.before)) (λ c. search rules) lay-targets-requires (λ c. search rules) (λ c. search rules) find-homes-requires (λ c. search rules) narrow-requires (λ c. search rules) returns-3)

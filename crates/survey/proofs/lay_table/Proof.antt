@@ -19,78 +19,73 @@ use Rattle.survey.proofs.lay_table.Statement.{statement}
 use Rattle.survey.proofs.lay_table.Tie as tie
 
 -- what the tests leave
-module _ (c : tie.Else1) where
+module _ (c : tie.Else-refused-ne0) where
   abbrev bytes : List ℕ
-  bytes = c.before.before.before.before.before.args.table.now
+  bytes = c.args.table.now
 
   formed : WellFormed bytes
-  formed = sym c.before.check-table.ensures ∙ c.if1.false
+  formed = sym c.check_table-refused.ensures ∙ c.if-refused-ne0.false
 
   known : TableFacts bytes
   known = table_facts bytes formed
 
-room : (c : tie.Else2) → let t = table_of (bytes c.before.before.before) in let a = c.before.before.before.before.before.before.before.before.args in
+room : (c : tie.Else-targets-cells) → let t = table_of (bytes c.before.before.before) in let a = c.args in
     (t.states * t.letters ≤ length a.targets.now) × (t.states * t.letters ≤ length a.marks.now)
 room c =
     let t = table_of (bytes c.before.before.before) in
-    let a = c.before.before.before.before.before.before.before.before.args in
-    let r = or_none (ltb (length a.targets.now) (t.states * t.letters)) (ltb (length a.marks.now) (t.states * t.letters)) c.if2.false in
+    let a = c.args in
+    let r = or_none (ltb (length a.targets.now) (t.states * t.letters)) (ltb (length a.marks.now) (t.states * t.letters)) c.if-targets-cells.false in
     (ltb-false _ _ r.0, ltb-false _ _ r.1)
 
-returns : tie.Need-returns
+returns : tie.Need-returns-then-refused-ne0
 returns c =
-    let s = c.before.before.before.before.before.before.args in
-    let e = c.refused-with.ensures in
-    rw (e.0, e.1, e.2, e.3) (lay_refused s.table.now s.targets.now s.marks.now _ c.before.before.check-table.ensures c.before.if1.true)
+    let s = c.args in
+    let e = c.refused_with.ensures in
+    rw (e.0, e.1, e.2, e.3) (lay_refused s.table.now s.targets.now s.marks.now _ c.check_table-refused.ensures c.if-refused-ne0.true)
 
-returns_2 : tie.Need-returns-2
+returns_2 : tie.Need-returns-then-targets-cells
 returns_2 c =
-    let s = c.before.before.before.before.before.before.before.before.before.args in
-    let e = c.refused-with2.ensures in
-    rw (e.0, e.1, e.2, e.3) (lay_short s.table.now (formed c.before.before.before.before) s.targets.now s.marks.now c.before.if2.true)
+    let s = c.args in
+    let e = c.refused_with-then-targets-cells.ensures in
+    rw (e.0, e.1, e.2, e.3) (lay_short s.table.now (formed c.before.before.before.before) s.targets.now s.marks.now c.if-targets-cells.true)
 
-lay-targets-requires : tie.Need-lay-targets-requires
+lay-targets-requires : tie.Need-lay_targets-requires
 lay-targets-requires c κs =
-    let e : tie.Else1 = c.before.before.before.before.before in
+    let e : tie.Else-refused-ne0 = c.before.before.before.before.before in
     rw (targets_part (bytes e), target_count (bytes e) (formed e)) (room c.before.before).0
 
-sub-lay-marks : tie.Need-overflow-sub-lay-marks
+sub-lay-marks : tie.Need-slice_bounds-lay_marks-count
 sub-lay-marks c = omega (arith, known c.before.before.before.before.before.before.before.before)
 
-part-lay-marks-start : tie.Need-slice-bounds-lay-marks-start
+part-lay-marks-start : tie.Need-slice_bounds-lay_marks-start
 part-lay-marks-start c = omega (arith, known c.before.before.before.before.before.before.before.before)
 
-part-lay-marks-end : tie.Need-slice-bounds-lay-marks-end
+part-lay-marks-end : tie.Need-slice_bounds-lay_marks-end
 part-lay-marks-end c = omega (arith, known c.before.before.before.before.before.before.before.before)
 
-lay-marks-requires : tie.Need-lay-marks-requires
+lay-marks-requires : tie.Need-lay_marks-requires
 lay-marks-requires c κs =
-    let e : tie.Else1 = c.before.before.before.before.before.before.before.before.before.before in
+    let e : tie.Else-refused-ne0 = c.before.before.before.before.before.before.before.before.before.before in
     (rw (marks_rest (bytes e) (formed e), mark_count (bytes e) (formed e)) (omega arith), (room c.before.before.before.before.before.before.before).1)
 
-shared-slice-read-t10 : tie.Need-shared-slice-read-t10
+shared-slice-read-t10 : tie.Need-bounds-table-1-2
 shared-slice-read-t10 c = omega (arith, known c.before.before.before.before.before.before.before.before.before.before.before.before.before.before)
 
-shared-slice-read-t29 : tie.Need-shared-slice-read-t29
+shared-slice-read-t29 : tie.Need-bounds-table-3
 shared-slice-read-t29 c = omega (arith, known c.before.before.before.before.before.before.before.before.before.before.before.before.before.before.before)
 
-cast-t13 : tie.Need-overflow-cast-t13
+cast-t13 : tie.Need-overflow_cast-result
 cast-t13 c = omega (arith, known c.before.before.before.before.before.before.before.before.before.before.before.before.before.before.before)
 
-returns-3 : tie.Need-returns-3
+returns-3 : tie.Need-returns
 returns-3 c =
-    let e : tie.Else1 = c.before.before.before.before.before.before.before.before.before.before.before.before.before.before.before in
-    let s = c.before.before.before.before.before.before.before.before.before.before.before.before.before.before.before.before.before.before.before.before.args in
-    let ts = targets_written (bytes e) (formed e) _ _ _ (targets_part (bytes e)) c.before.before.before.before.before.before.before.before.before.lay-targets.ensures in
-    let ms = marks_written (bytes e) (formed e) _ _ _ (marks_rest (bytes e) (formed e)) c.before.before.before.before.lay-marks.ensures in
-    laid (bytes e) (formed e) s.targets.now s.marks.now _ _ c.before.before.before.before.before.before.before.before.before.before.before.before.if2.false ts ms
+    let e : tie.Else-refused-ne0 = c.before.before.before.before.before.before.before.before.before.before.before.before.before.before.before in
+    let s = c.args in
+    let ts = targets_written (bytes e) (formed e) _ _ _ (targets_part (bytes e)) c.lay_targets.ensures in
+    let ms = marks_written (bytes e) (formed e) _ _ _ (marks_rest (bytes e) (formed e)) c.lay_marks.ensures in
+    laid (bytes e) (formed e) s.targets.now s.marks.now _ _ c.if-targets-cells.false ts ms
 
 pub lay_table_spec : {M : Type 1} → statement M
 lay_table_spec =
     tie.close
-    (tie.spec (λ c κs. search rules) (λ c κs. search rules) returns (λ c. omega (arith, known c.before)) (λ c. omega (arith, known c.before))
-    (λ c. omega (arith, known c.before.before)) (λ c. omega (arith, known c.before.before)) (λ c. omega (arith, known c.before.before))
-    (λ c κs. search rules) returns_2 (λ c. omega (arith, known c.before.before.before)) (λ c. omega (arith, known c.before.before.before))
-    (λ c. omega (arith, known c.before.before.before)) (λ c. omega (arith, known c.before.before.before)) lay-targets-requires sub-lay-marks
-    part-lay-marks-start part-lay-marks-end lay-marks-requires shared-slice-read-t10 shared-slice-read-t29 cast-t13 (λ c. search rules)
-    (λ c. search rules) returns-3)
+    (tie.spec (λ c κs. search rules) (λ c κs. search rules) returns (λ c. omega (arith, known c.before)) (λ c. omega (arith, known c.before)) (λ c. omega (arith, known c.before.before)) (λ c. omega (arith, known c.before.before)) (λ c. omega (arith, known c.before.before)) (λ c κs. search rules) returns_2 (λ c. omega (arith, known c.before.before.before)) (λ c. omega (arith, known c.before.before.before)) (λ c. omega (arith, known c.before.before.before)) (λ c. omega (arith, known c.before.before.before)) lay-targets-requires sub-lay-marks part-lay-marks-start part-lay-marks-end lay-marks-requires shared-slice-read-t10 shared-slice-read-t29 cast-t13 (λ c. search rules) (λ c. search rules) returns-3)

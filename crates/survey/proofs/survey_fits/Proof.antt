@@ -23,18 +23,18 @@ unfit n m a b c d h =
 small : (n m : ℕ) → ltb max_states n || ltb max_letters m ≡ false → (n ≤ max_states) × (m ≤ max_letters)
 small n m h = let r = or_none (ltb max_states n) (ltb max_letters m) h in (ltb-false max_states n r.0, ltb-false max_letters m r.1)
 
-returns : tie.Need-returns
-returns c = let a = c.before.args in unfit a.states a.letters a.targets a.marks a.homes a.counted c.if1.true
+returns : tie.Need-returns-then-states-letters
+returns c = let a = c.args in unfit a.states a.letters a.targets a.marks a.homes a.counted c.if-states-letters.true
 
-mul-cells : tie.Need-overflow-mul-cells
+mul-cells : tie.Need-overflow_mul-cells
 mul-cells c =
-    let l = small c.before.args.states c.before.args.letters c.if1.false in
+    let l = small c.args.states c.args.letters c.if-states-letters.false in
     omega (arith, mul-le-mul l.0 l.1)
 
-returns_2 : tie.Need-returns-2
+returns_2 : tie.Need-returns
 returns_2 c =
-    let a = c.before.args in
-    let l = small a.states a.letters c.if1.false in
+    let a = c.args in
+    let l = small a.states a.letters c.if-states-letters.false in
     rw (le-leb a.states max_states l.0, le-leb a.letters max_letters l.1)
 
 pub survey_fits_spec : {M : Type 1} → statement M

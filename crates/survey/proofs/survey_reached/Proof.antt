@@ -18,42 +18,42 @@ use Rattle.survey.proofs.survey_reached.Statement.{statement}
 use Rattle.survey.proofs.survey_reached.Tie as tie
 
 -- what the code tests
-tested : (c : tie.After-survey-fits) → let a = c.before.before.before.before.before.args in
-    c.survey-fits.result && ltb a.from a.states
+tested : (c : tie.After-survey_fits-fits) → let a = c.args in
+    c.survey_fits-fits.result && ltb a.from a.states
     ≡ survey_fits a.states a.letters (length a.targets.now) (length a.marks.now) (length a.homes.now) (length a.counted.now) && ltb a.from a.states
-tested c = let a = c.before.before.before.before.before.args in ap (λ (b : Bool). b && ltb a.from a.states) c.survey-fits.ensures
+tested c = let a = c.args in ap (λ (b : Bool). b && ltb a.from a.states) c.survey_fits-fits.ensures
 
-room : (c : tie.Else1) → let a = c.before.before.before.before.before.before.args in
+room : (c : tie.Else-not-fits-from) → let a = c.args in
     ((a.states ≤ max_states) × (a.letters ≤ max_letters) × (a.states * a.letters ≤ length a.targets.now) × (a.states * a.letters ≤ length a.marks.now) × (a.states ≤ length a.homes.now) × (a.states ≤ length a.counted.now))
     × (a.from < a.states)
 room c =
-    let a = c.before.before.before.before.before.before.args in
-    let p = and_parts c.before.survey-fits.result (ltb a.from a.states) (not-false _ c.if1.false) in
-    (survey_room _ _ _ _ _ _ (sym c.before.survey-fits.ensures ∙ p.0), ltb-true a.from a.states p.1)
+    let a = c.args in
+    let p = and_parts c.survey_fits-fits.result (ltb a.from a.states) (c.if-not-fits-from.false) in
+    (survey_room _ _ _ _ _ _ (sym c.survey_fits-fits.ensures ∙ p.0), ltb-true a.from a.states p.1)
 
-returns : tie.Need-returns
-returns c = record { answer = sym (not-true _ c.if1.true) ∙ tested c.before; home_array = refl; counted_array = refl }
+returns : tie.Need-returns-then-not-fits-from
+returns c = record { answer = sym (c.if-not-fits-from.true) ∙ tested c.before; home_array = refl; counted_array = refl }
 
-find-homes-from-requires : tie.Need-find-homes-from-requires
+find-homes-from-requires : tie.Need-find_homes_from-requires
 find-homes-from-requires c κs =
     let r = room c.before in
     (r.0.0, r.0.1, r.0.2, r.0.4, r.1)
 
-write-counted-requires : tie.Need-write-counted-requires
+write-counted-requires : tie.Need-write_counted-requires
 write-counted-requires c κs =
-    let r = (room c.before.before.before.before.before.before).0 in
-    (record { few_states = r.0; few_letters = r.1; target_room = r.2; mark_room = r.3; home_room = rw c.before.before.before.before.find-homes-from.auto.1.1.1.1.0 r.4 }, r.5)
+    let r = (room c.before.before.before.before.before).0 in
+    (record { few_states = r.0; few_letters = r.1; target_room = r.2; mark_room = r.3; home_room = rw c.find_homes_from.auto.homes r.4 }, r.5)
 
-returns_2 : tie.Need-returns-2
+returns_2 : tie.Need-returns
 returns_2 c =
-    let e : tie.Else1 = c.before.before.before.before.before.before.before.before.before in
-    let a = e.before.before.before.before.before.before.args in
+    let e : tie.Else-not-fits-from = c.before.before.before.before.before.before.before.before in
+    let a = e.args in
     let s = parity_system a.states a.letters a.targets.now in
-    let h = c.before.before.before.before.before.before.before.find-homes-from.ensures in
+    let h = c.find_homes_from.ensures in
     record {
-      answer = sym (not-false _ e.if1.false) ∙ tested e.before;
+      answer = sym (e.if-not-fits-from.false) ∙ tested e.before;
       home_array = h;
-      counted_array = counted_at_homes a.states a.letters a.targets.now a.marks.now _ a.homes.now (reaches s a.from) (reached_alike s a.from) h a.counted.now _ c.before.before.write-counted.ensures;
+      counted_array = counted_at_homes a.states a.letters a.targets.now a.marks.now _ a.homes.now (reaches s a.from) (reached_alike s a.from) h a.counted.now _ c.write_counted.ensures;
     }
 
 pub survey_reached_spec : {M : Type 1} → statement M

@@ -7,7 +7,7 @@ use Rattle.cards.proofs.marked.judge_card.Statement.{statement}
 use Rattle.cards.proofs.marked.judge_card.Tie as tie
 
 cast-letters : tie.Need-overflow-cast-letters
-cast-letters c = omega (arith, c.letters-of.type-inv)
+cast-letters c = omega (arith, c.letters-of.type_inv)
 
 returns : tie.Need-returns
 returns c =

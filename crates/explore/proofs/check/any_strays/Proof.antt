@@ -11,19 +11,18 @@ use Rattle.explore.specs.Cells.{strays}
 use Rattle.explore.proofs.check.any_strays.Statement.{statement}
 use Rattle.explore.proofs.check.any_strays.Tie as tie
 
-abbrev invariant-loop : tie.invariant-loop
+abbrev invariant-loop : tie.invariant-loop-i
 invariant-loop cells n found₀ i₀ found i = (i ≤ length cells) × (found || any (strays n) (drop i cells) ≡ any (strays n) cells)
 
-abbrev decreases-loop : tie.decreases-loop
+abbrev decreases-loop : tie.decreases-loop-i
 decreases-loop cells n found₀ i₀ found i = length cells - i
 
-loop-again : tie.Need-loop-preserved invariant-loop decreases-loop
+loop-again : tie.Need-loop-i-preserved invariant-loop decreases-loop
 loop-again c =
-    let i = c.before.before.before.loop in
-    (omega arith, rw c.strays.ensures (any_turn (strays _) i.found _ i.i c.before.before.loop-test.true) ∙ i.invariant.1)
+    let i = c.loop-i in
+    (omega arith, rw c.strays-found.ensures (any_turn (strays _) i.found _ i.i c.loop-i-test.true) ∙ i.invariant.1)
 
 pub any_strays_spec : {M : Type 1} → statement M
 any_strays_spec =
     tie.close
-    (tie.spec invariant-loop decreases-loop (λ c. (search rules, refl)) (λ c. search rules) (λ c. search rules) (λ c κs. search rules) (λ c. search rules)
-    (λ c. search rules) loop-again (λ c. any_end _ _ _ _ c.loop-test.false c.before.loop.invariant.1))
+    (tie.spec invariant-loop decreases-loop (λ c. (search rules, refl)) (λ c. search rules) (λ c. search rules) (λ c κs. search rules) (λ c. search rules) (λ c. search rules) loop-again (λ c. any_end _ _ _ _ c.loop-i-test.false c.loop-i.invariant.1))

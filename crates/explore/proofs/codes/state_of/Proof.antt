@@ -4,4 +4,4 @@ use Rattle.explore.proofs.codes.state_of.Statement.{statement}
 use Rattle.explore.proofs.codes.state_of.Tie as tie
 
 pub state_of_spec : {M : Type 1} → statement M
-state_of_spec = tie.close (tie.spec (λ c. rw (lt-ltb _ _ c.if1.true)) (λ c. rw (le-ltb _ _ c.if1.false)))
+state_of_spec = tie.close (tie.spec (λ c. rw (lt-ltb _ _ c.if-code-lt-INSIDE.true)) (λ c. rw (le-ltb _ _ c.if-code-lt-INSIDE.false)))

@@ -6,11 +6,10 @@ use Rattle.explore.proofs.index.index_key.Tie as tie
 
 returns : tie.Need-returns
 returns c =
-    let s = c.before.slot.ensures.0 in
+    let s = c.slot-s.ensures.0 in
     record { head_array = rw (s, add-one); link_array = rw s }
 
 pub index_key_spec : {M : Type 1} → statement M
 index_key_spec =
     tie.close
-    (tie.spec (λ c κs. search rules) (λ c. search rules) (λ c. search rules) (λ c. search rules) (λ c. search rules) (λ c. search rules)
-    (λ c. search rules) (λ c. search rules) (λ c. search rules) (λ c. search rules) (λ c. search rules) returns)
+    (tie.spec (λ c κs. search rules) (λ c. search rules) (λ c. search rules) (λ c. search rules) (λ c. search rules) (λ c. search rules) (λ c. search rules) (λ c. search rules) (λ c. search rules) (λ c. search rules) (λ c. search rules) returns)

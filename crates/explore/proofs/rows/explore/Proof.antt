@@ -15,52 +15,49 @@ use Rattle.explore.proofs.Answers.{rows_done, many_after}
 use Rattle.explore.proofs.rows.explore.Statement.{statement}
 use Rattle.explore.proofs.rows.explore.Tie as tie
 
-index-keys-requires : tie.Need-index-keys-requires
+index-keys-requires : tie.Need-index_keys-requires
 index-keys-requires c κs =
-    let r = c.before.before.before.before.before.before.before.requires.1 in
+    let r = c.requires.1 in
     (omega arith, simp length-set (omega (arith, r.some_rows, r.key_room)), omega arith, omega arith, zeros_at 256)
 
-read-rows-requires : tie.Need-read-rows-requires
+read-rows-requires : tie.Need-read_rows-few-requires
 read-rows-requires c κs =
-    let s = c.before.before.before.before.before.before.before.before.before.before.before.before.before.before.before in
-    (s.requires.0, stage_begun s.args.task s.args.cells.now _ _ _ _ s.requires.0 s.requires.1, c.before.before.before.before.before.before.before.index-keys.ensures, λ x l k. omega (arith, s.requires.0.most_letters))
+    let s = c in
+    (s.requires.0, stage_begun s.args.task s.args.cells.now _ _ _ _ s.requires.0 s.requires.1, c.index_keys.ensures, λ x l k. omega (arith, s.requires.0.most_letters))
 
 -- rows have been read with a small index
-module _ (c : tie.After-read-rows) where
+module _ (c : tie.After-read_rows-few) where
   abbrev s : tie.Start
-  s = c.before.before.before.before.before.before.before.before.before.before.before.before.before.before.before.before
+  s = c.before.before.before.before.before.before.before.before.before.before.before.before.before.before.before
 
-  part : let a = s.args in let l = c.read-rows.new.1.1.1.1.1.1 in let r = c.read-rows.result in
-      RowsPart a.task a.cells.now a.capacity r.row (lent a.keys.now a.targets.now a.priorities.now) (lent l.0 l.1.1.1.0 l.1.1.1.1.0) r.known
+  part : let a = s.args in let l = c.read_rows-few.new in let r = c.read_rows-few.result in
+      RowsPart a.task a.cells.now a.capacity r.row (lent a.keys.now a.targets.now a.priorities.now) (lent l.keys l.targets l.priorities) r.known
   part =
-      let y = c.read-rows.ensures in
-      part_after s.args.task s.args.cells.now _ _ _ _ _ _ _ _ _ _ s.pre.1.some_rows y.longer y.part
+      let y = c.read_rows-few.ensures in
+      part_after s.args.task s.args.cells.now _ _ _ _ _ _ _ _ _ _ s.requires.1.some_rows y.longer y.part
 
 -- all rows are read, or there are too many
 stopped : (i r c : ℕ) → eqb i r || ltb c r ≡ true → i < r → r ≤ c → ⊥
 stopped i r c h l k = or_cases (eqb i r) (ltb c r) h (λ e. omega (arith, eqb-true i r e)) (λ e. omega (arith, ltb-true c r e))
 
-returns : tie.Need-returns
+returns : tie.Need-returns-then-few-capacity
 returns c =
     let u = c.before.before.before.before.before.before.before.before.before.before.before in
-    rows_done _ _ _ _ _ _ _ _ _ _ _ (part u) (stopped _ _ _ c.if1.true)
+    rows_done _ _ _ _ _ _ _ _ _ _ _ (part u) (stopped _ _ _ c.if-few-capacity.true)
 
 -- there may be more
-more : (c : tie.Else1) → c.before.before.before.before.before.before.before.before.before.before.before.read-rows.result.known ≤ (s c.before.before.before.before.before.before.before.before.before.before.before).args.capacity
+more : (c : tie.Else-few-capacity) → c.read_rows-few.result.known ≤ (s c.before.before.before.before.before.before.before.before.before.before.before).args.capacity
 more c =
     let u = c.before.before.before.before.before.before.before.before.before.before.before in
-    let r = u.read-rows.result in
-    ltb-false _ _ (or_none (eqb r.row r.known) (ltb (s u).args.capacity r.known) c.if1.false).1
+    let r = u.read_rows-few.result in
+    ltb-false _ _ (or_none (eqb r.row r.known) (ltb (s u).args.capacity r.known) c.if-few-capacity.false).1
 
-returns_2 : tie.Need-returns-2
+returns_2 : tie.Need-returns
 returns_2 c =
-    let y = c.before.before.before.before.before.before.read-many.ensures in
+    let y = c.read_many.ensures in
     many_after _ _ _ _ _ _ _ _ _ _ _ (part c.before.before.before.before.before.before.before.before.before.before.before.before.before.before.before.before.before.before.before.before.before) (more c.before.before.before.before.before.before.before.before.before.before) _ _ _ _ y.1 y.0
 
 pub explore_spec : {M : Type 1} → statement M
 explore_spec =
     tie.close
-    (tie.spec (λ c. search rules) (λ c. search rules) (λ c. search rules) index-keys-requires (λ c. search rules) (λ c. search rules) read-rows-requires
-    (λ c. (part c.before.before.before.before.before.before.before.before.before.before.before).key_rest.size) (λ c. (part c.before.before.before.before.before.before.before.before.before.before.before).target_rest.size) (λ c. (part c.before.before.before.before.before.before.before.before.before.before.before).priority_rest.size) returns
-    (λ c κs. ((s c.before.before.before.before.before.before.before.before.before.before.before.before.before.before).pre.0, (part c.before.before.before.before.before.before.before.before.before.before.before.before.before.before).stage (more c.before.before.before)))
-    (λ c. c.before.before.before.before.before.before.read-many.ensures.0.key_rest.size ∙ (part c.before.before.before.before.before.before.before.before.before.before.before.before.before.before.before.before.before.before.before.before.before).key_rest.size) (λ c. search rules) (λ c. search rules) returns_2)
+    (tie.spec (λ c. search rules) (λ c. search rules) (λ c. search rules) index-keys-requires (λ c. search rules) (λ c. search rules) read-rows-requires (λ c. (part c.before.before.before.before.before.before.before.before.before.before.before).key_rest.size) (λ c. (part c.before.before.before.before.before.before.before.before.before.before.before).target_rest.size) (λ c. (part c.before.before.before.before.before.before.before.before.before.before.before).priority_rest.size) returns (λ c κs. ((s c.before.before.before.before.before.before.before.before.before.before.before.before.before.before).requires.0, (part c.before.before.before.before.before.before.before.before.before.before.before.before.before.before).stage (more c.before.before.before))) (λ c. c.read_many.ensures.0.key_rest.size ∙ (part c.before.before.before.before.before.before.before.before.before.before.before.before.before.before.before.before.before.before.before.before.before).key_rest.size) (λ c. search rules) (λ c. search rules) returns_2)

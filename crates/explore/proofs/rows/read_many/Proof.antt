@@ -6,25 +6,24 @@ use Rattle.explore.proofs.Answers.{rows_done}
 use Rattle.explore.proofs.rows.read_many.Statement.{statement}
 use Rattle.explore.proofs.rows.read_many.Tie as tie
 
-index-keys-requires : tie.Need-index-keys-requires
+index-keys-requires : tie.Need-index_keys-requires
 index-keys-requires c κs =
-    let f = c.before.before.before.before.before.before.before.requires.1.known.filed in
+    let f = c.requires.1.known.filed in
     (omega (arith, f.few, f.most), omega (arith, f.few, f.key_room), omega arith, omega (arith, f.few, f.most), zeros_at 16384)
 
-read-rows-requires : tie.Need-read-rows-requires
+read-rows-requires : tie.Need-read_rows-all-requires
 read-rows-requires c κs =
-    let s = c.before.before.before.before.before.before.before.before.before.before.before.before.before.before.before in
+    let s = c in
     let f = s.requires.1.known.filed in
-    (s.requires.0, s.requires.1, c.before.before.before.before.before.before.before.index-keys.ensures, λ x l k. omega (arith, f.most))
+    (s.requires.0, s.requires.1, c.index_keys.ensures, λ x l k. omega (arith, f.most))
 
 returns : tie.Need-returns
 returns c =
-    let s = c.before.before.before.before.before.before.before.before.before.before.before.before.before.before.before.before.before.before.before.before.before.before.before.before.args in
-    let x = c.before.before.before.before.before.before.before.before.read-rows.ensures in
+    let s = c.args in
+    let x = c.read_rows-all.ensures in
     (rows_done s.task s.cells.now _ _ _ _ _ _ _ _ _ x.part (λ l k. x.ended l k k), x.longer)
 
 pub read_many_spec : {M : Type 1} → statement M
 read_many_spec =
     tie.close
-    (tie.spec (λ c. search rules) (λ c. search rules) index-keys-requires (λ c. search rules) (λ c. search rules) read-rows-requires
-    (λ c. search rules) (λ c. search rules) (λ c. search rules) returns)
+    (tie.spec (λ c. search rules) (λ c. search rules) index-keys-requires (λ c. search rules) (λ c. search rules) read-rows-requires (λ c. search rules) (λ c. search rules) (λ c. search rules) returns)

@@ -18,12 +18,12 @@ use Rattle.explore.proofs.Rounds.{RowPart, row_begun, row_next, row_done}
 use Rattle.explore.proofs.rows.read_row.Statement.{statement}
 use Rattle.explore.proofs.rows.read_row.Tie as tie
 
-abbrev invariant-loop : tie.invariant-loop
+abbrev invariant-loop : tie.invariant-loop-a
 invariant-loop task cells i n capacity keys₀ heads₀ links₀ targets₀ priorities₀ m key first effects stride known₀ a₀ keys heads links targets priorities known a =
     RowPart task cells capacity n i a (lent keys₀ targets₀ priorities₀) (lent keys targets priorities) known × (known ≤ capacity → Linked known keys heads links)
     × (length heads ≡ length heads₀) × (length links ≡ length links₀)
 
-abbrev decreases-loop : tie.decreases-loop
+abbrev decreases-loop : tie.decreases-loop-a
 decreases-loop task cells i n capacity keys₀ heads₀ links₀ targets₀ priorities₀ m key first effects stride known₀ a₀ keys heads links targets priorities known a = task.letters - a
 
 -- what holds at the entry
@@ -46,83 +46,74 @@ module _ (c : tie.Start invariant-loop decreases-loop) where
   few_rows = mul-le-mul c.requires.2.filed.most c.requires.0.most_letters
 
 -- a letter is left, and there is room
-tests : (c : tie.Then1 invariant-loop decreases-loop) → (c.before.before.loop.a < m c.before.before.before.before.before.before.before.before.before.before.before.before.before) × (c.before.before.loop.known ≤ c.before.before.before.before.before.before.before.before.before.before.before.before.before.args.capacity)
+tests : (c : tie.In-loop-a invariant-loop decreases-loop) → (c.loop-a.a < m c.before.before.before.before.before.before.before.before.before.before.before.before.before) × (c.loop-a.known ≤ c.args.capacity)
 tests c =
-    let r = and_parts (ltb c.before.before.loop.a (m c.before.before.before.before.before.before.before.before.before.before.before.before.before)) (leb c.before.before.loop.known c.before.before.before.before.before.before.before.before.before.before.before.before.before.args.capacity) c.if1.true in
+    let r = and_parts (ltb c.loop-a.a (m c.before.before.before.before.before.before.before.before.before.before.before.before.before)) (leb c.loop-a.known c.args.capacity) c.loop-a-test.true in
     (ltb-true _ _ r.0, leb-true _ _ r.1)
 
 -- if a row may be filed, there is a link for it
-room : (c : tie.Then1 invariant-loop decreases-loop) → let i = c.before.before.loop in i.known < c.before.before.before.before.before.before.before.before.before.before.before.before.before.args.capacity → i.known < length i.links
+room : (c : tie.In-loop-a invariant-loop decreases-loop) → let i = c.loop-a in i.known < c.args.capacity → i.known < length i.links
 room c l =
-    let i = c.before.before.loop in
-    let s = c.before.before.before.before.before.before.before.before.before.before.before.before.before in
+    let i = c.loop-a in
+    let s = c in
     omega (arith, i.invariant.3, s.requires.4 i.known l (omega (arith, i.invariant.0.most, (tests c).0)))
 
 -- an effect is at no later place than its letter
-place_few : (c : tie.Then1 invariant-loop decreases-loop) → c.before.before.loop.a * c.before.before.before.before.write-effects.result < max_letters
+place_few : (c : tie.In-loop-a invariant-loop decreases-loop) → c.loop-a.a * c.write_effects-stride.result < max_letters
 place_few c =
-    let w = c.before.before.before.before.write-effects in
-    let l : c.before.before.loop.a * w.result ≤ c.before.before.loop.a * 1 = mul-le-mul (omega arith) w.ensures.most in
-    omega (arith, l, (tests c).0, c.before.before.before.before.before.before.before.before.before.before.before.before.before.requires.0.most_letters)
+    let w = c.write_effects-stride in
+    let l : c.loop-a.a * w.result ≤ c.loop-a.a * 1 = mul-le-mul (omega arith) w.ensures.most in
+    omega (arith, l, (tests c).0, c.requires.0.most_letters)
 
-cast-first : tie.Need-overflow-cast-first invariant-loop decreases-loop
+cast-first : tie.Need-overflow_cast-first invariant-loop decreases-loop
 cast-first c =
     let s = c.before.before.before.before.before.before.before in
     omega (arith, s.requires.2.fits s.args.i s.requires.1, div-le_self (length s.args.cells.now) (m s))
 
-write-effects-requires : tie.Need-write-effects-requires invariant-loop decreases-loop
+write-effects-requires : tie.Need-write_effects-stride-requires invariant-loop decreases-loop
 write-effects-requires c κs =
     let s = c.before.before.before.before.before.before.before.before in
     (omega arith, s.requires.0.most_letters, s.requires.0.some_letters, row_cells s, omega arith)
 
-shared-slice-read-read-cell : tie.Need-shared-slice-read-read-cell invariant-loop decreases-loop
+shared-slice-read-read-cell : tie.Need-bounds-cells-first invariant-loop decreases-loop
 shared-slice-read-read-cell c = omega (arith, (tests c.before).0, row_cells c.before.before.before.before.before.before.before.before.before.before.before.before.before.before)
 
-mul-read-cell-4 : tie.Need-overflow-mul-read-cell-4 invariant-loop decreases-loop
+mul-read-cell-4 : tie.Need-overflow_mul-i invariant-loop decreases-loop
 mul-read-cell-4 c = omega (arith, in_rows c.before.before.before.before.before.before.before.before.before.before.before.before.before.before.before, few_rows c.before.before.before.before.before.before.before.before.before.before.before.before.before.before.before)
 
-add-read-cell-2 : tie.Need-overflow-add-read-cell-2 invariant-loop decreases-loop
+add-read-cell-2 : tie.Need-overflow_add-i invariant-loop decreases-loop
 add-read-cell-2 c = omega (arith, (tests c.before.before).0, in_rows c.before.before.before.before.before.before.before.before.before.before.before.before.before.before.before, few_rows c.before.before.before.before.before.before.before.before.before.before.before.before.before.before.before)
 
-read-cell-requires : tie.Need-read-cell-requires invariant-loop decreases-loop
+read-cell-requires : tie.Need-read_cell-known-requires invariant-loop decreases-loop
 read-cell-requires c κs =
     let u = c.before.before.before.before.before.before.before in
     let s = c.before.before.before.before.before.before.before.before.before.before.before.before.before.before.before.before.before.before.before.before in
-    let k = c.before.before.before.before.before.before.before.before.before.loop.invariant.0.known (tests u).1 in
-    (k.filed, c.before.before.before.before.before.before.before.before.before.loop.invariant.1 (tests u).1, λ l. room u l, (c.before.before.before.before.before.before.before.before.before.before.before.write-effects.ensures.each c.before.before.before.before.before.before.before.before.before.loop.a (tests u).0).small, omega (arith, (tests u).0, in_rows s, k.target_room), omega (arith, (tests u).0, in_rows s, k.priority_room))
+    let k = c.loop-a.invariant.0.known (tests u).1 in
+    (k.filed, c.loop-a.invariant.1 (tests u).1, λ l. room u l, (c.write_effects-stride.ensures.each c.loop-a.a (tests u).0).small, omega (arith, (tests u).0, in_rows s, k.target_room), omega (arith, (tests u).0, in_rows s, k.priority_room))
 
-add_a : tie.Need-overflow-add-a invariant-loop decreases-loop
-add_a c = omega (arith, (tests c.before.before.before.before.before.before.before.before.before.before.before.before.before.before.before.before.before.before).0, c.before.before.before.before.before.before.before.before.before.before.before.before.before.before.before.before.before.before.before.before.before.before.before.before.before.before.before.before.before.before.before.requires.0.most_letters)
+add_a : tie.Need-overflow_add-a invariant-loop decreases-loop
+add_a c = omega (arith, (tests c.before.before.before.before.before.before.before.before.before.before.before.before.before.before.before.before.before.before).0, c.requires.0.most_letters)
 
-loop-less : tie.Need-loop-smaller invariant-loop decreases-loop
+loop-less : tie.Need-loop-a-smaller invariant-loop decreases-loop
 loop-less c = omega (arith, (tests c.before.before.before.before.before.before.before.before.before.before.before.before.before.before.before.before.before.before).0)
 
-loop-again : tie.Need-loop-preserved invariant-loop decreases-loop
+loop-again : tie.Need-loop-a-preserved invariant-loop decreases-loop
 loop-again c =
     let u = c.before.before.before.before.before.before.before.before.before.before.before.before.before.before.before.before.before.before in
     let s = c.before.before.before.before.before.before.before.before.before.before.before.before.before.before.before.before.before.before.before.before.before.before.before.before.before.before.before.before.before.before.before in
-    let turn = c.before.before.before.before.before.before.before.before.before.before.before.before.before.before.before.before.before.before.before.before.loop in
+    let turn = c.loop-a in
     let f = turn.invariant in
-    let call = c.before.before.before.before.before.before.before.before.before.before.read_cell in
-    let effect = c.before.before.before.before.before.before.before.before.before.before.before.before.before.before.before.before.before.before.before.before.before.before.write-effects.ensures.each turn.a (tests u).0 in
+    let call = c.read_cell-known in
+    let effect = c.write_effects-stride.ensures.each turn.a (tests u).0 in
     let step = step_here s.args.task s.args.cells.now (v s) (get_or turn.keys s.args.i 0) turn.a _ _ (f.0.front (tests u).1) refl effect.is in
-    (row_next s.args.task s.args.cells.now _ _ _ _ _ _ _ _ _ _ _ _ _ _ _ s.requires.0 s.requires.1 (tests u).0 (tests u).1 f.0 _ step call.ensures.0, call.ensures.1, call.auto.1.1.1.1.1.1.0 ∙ f.2, call.auto.1.1.1.1.1.1.1.0 ∙ f.3)
+    (row_next s.args.task s.args.cells.now _ _ _ _ _ _ _ _ _ _ _ _ _ _ _ s.requires.0 s.requires.1 (tests u).0 (tests u).1 f.0 _ step call.ensures.0, call.ensures.1, call.auto.heads ∙ f.2, call.auto.links ∙ f.3)
 
 returns : tie.Need-returns invariant-loop decreases-loop
 returns c =
-    let s = c.before.before.before.before.before.before.before.before.before.before.before.before.before.args in
-    (row_done s.task s.cells.now _ _ _ _ _ _ _ _ _ _ _ c.if1.false c.before.before.loop.invariant.0, c.before.before.loop.invariant.1)
+    let s = c.args in
+    (row_done s.task s.cells.now _ _ _ _ _ _ _ _ _ _ _ c.loop-a-test.false c.loop-a.invariant.0, c.loop-a.invariant.1)
 
 pub read_row_spec : {M : Type 1} → statement M
 read_row_spec =
     tie.close
-    (tie.spec invariant-loop decreases-loop (λ c. search rules) (λ c. search rules) cast-first
-    (λ c. omega (arith, row_cells c.before.before.before.before.before.before.before)) (λ c. search rules) write-effects-requires
-    (λ c. (row_begun _ _ _ _ _ _ _ _ c.before.before.before.before.before.before.before.before.before.before.requires.2, λ h. c.before.before.before.before.before.before.before.before.before.before.requires.3, refl, refl))
-    (λ c. omega (arith, (tests c).0, row_cells c.before.before.before.before.before.before.before.before.before.before.before.before.before))
-    (λ c. omega (arith, (tests c).0, row_cells c.before.before.before.before.before.before.before.before.before.before.before.before.before))
-    shared-slice-read-read-cell (λ c. omega (arith, place_few c.before)) (λ c. omega (arith, place_few c.before))
-    (λ c. omega (arith, place_few c.before)) mul-read-cell-4 add-read-cell-2 read-cell-requires add_a
-    loop-less loop-again (λ c. c.before.before.loop.invariant.0.key_rest.size) (λ c. c.before.before.loop.invariant.2)
-    (λ c. c.before.before.loop.invariant.3) (λ c. c.before.before.loop.invariant.0.target_rest.size)
-    (λ c. c.before.before.loop.invariant.0.priority_rest.size) returns)
+    (tie.spec invariant-loop decreases-loop (λ c. search rules) (λ c. search rules) cast-first (λ c. omega (arith, row_cells c.before.before.before.before.before.before.before)) (λ c. search rules) write-effects-requires (λ c. (row_begun _ _ _ _ _ _ _ _ c.requires.2, λ h. c.requires.3, refl, refl)) (λ c. omega (arith, (tests c).0, row_cells c.before.before.before.before.before.before.before.before.before.before.before.before.before)) (λ c. omega (arith, (tests c).0, row_cells c.before.before.before.before.before.before.before.before.before.before.before.before.before)) shared-slice-read-read-cell (λ c. omega (arith, place_few c.before)) (λ c. omega (arith, place_few c.before)) (λ c. omega (arith, place_few c.before)) mul-read-cell-4 add-read-cell-2 read-cell-requires add_a loop-less loop-again (λ c. c.loop-a.invariant.0.key_rest.size) (λ c. c.loop-a.invariant.2) (λ c. c.loop-a.invariant.3) (λ c. c.loop-a.invariant.0.target_rest.size) (λ c. c.loop-a.invariant.0.priority_rest.size) returns)

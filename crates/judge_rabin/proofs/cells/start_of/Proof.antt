@@ -8,4 +8,4 @@ use Rattle.judge_rabin.proofs.cells.start_of.Tie as tie
 pub start_of_spec : {M : Type 1} → statement M
 start_of_spec =
     tie.close
-    (tie.spec (λ c. omega (arith, table_facts _ c.before.requires)) (λ c. omega (arith, table_facts _ c.before.requires)) (λ c. search rules))
+    (tie.spec (λ c. omega (arith, table_facts _ c.requires)) (λ c. omega (arith, table_facts _ c.requires)) (λ c. search rules))

@@ -8,4 +8,4 @@ use Rattle.judge_rabin.proofs.cells.states_of.Tie as tie
 pub states_of_spec : {M : Type 1} → statement M
 states_of_spec =
     tie.close
-    (tie.spec (λ c. omega (arith, table_facts _ c.before.requires)) (λ c. omega (arith, table_facts _ c.before.requires)) (λ c. search rules))
+    (tie.spec (λ c. omega (arith, table_facts _ c.requires)) (λ c. omega (arith, table_facts _ c.requires)) (λ c. search rules))

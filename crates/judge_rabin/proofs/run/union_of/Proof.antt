@@ -10,22 +10,22 @@ use Rattle.judge.proofs.Sums.{union_joins, sums_rest, sums_end}
 use Rattle.judge_rabin.proofs.run.union_of.Statement.{statement}
 use Rattle.judge_rabin.proofs.run.union_of.Tie as tie
 
-abbrev invariant-loop : tie.invariant-loop
+abbrev invariant-loop : tie.invariant-loop-i
 invariant-loop sets union₀ i₀ union i = (i ≤ length sets) × SumsUp bit (λ x. x) (take i sets) union
 
-abbrev decreases-loop : tie.decreases-loop
+abbrev decreases-loop : tie.decreases-loop-i
 decreases-loop sets union₀ i₀ union i = length sets - i
 
-loop-holds : tie.Need-loop-init invariant-loop decreases-loop
+loop-holds : tie.Need-loop-i-init invariant-loop decreases-loop
 loop-holds c = (omega arith, bit_none)
 
-loop-again : tie.Need-loop-preserved invariant-loop decreases-loop
+loop-again : tie.Need-loop-i-preserved invariant-loop decreases-loop
 loop-again c =
-    let i = c.before.before.loop in
-    (omega arith, sums_rest bit _ i.i i.union i.invariant.1 bit_or union_joins c.before.loop-test.true)
+    let i = c.loop-i in
+    (omega arith, sums_rest bit _ i.i i.union i.invariant.1 bit_or union_joins c.loop-i-test.true)
 
 returns : tie.Need-returns invariant-loop decreases-loop
-returns c = let i = c.before.loop in sums_end bit _ i.i i.union i.invariant.1 c.loop-test.false
+returns c = let i = c.loop-i in sums_end bit _ i.i i.union i.invariant.1 c.loop-i-test.false
 
 pub union_of_spec : {M : Type 1} → statement M
 union_of_spec = tie.close (tie.spec invariant-loop decreases-loop loop-holds (λ c. omega arith) (λ c. omega arith) (λ c. omega arith) loop-again returns)

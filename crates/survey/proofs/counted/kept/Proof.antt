@@ -4,4 +4,4 @@ use Rattle.survey.proofs.counted.kept.Statement.{statement}
 use Rattle.survey.proofs.counted.kept.Tie as tie
 
 pub kept_spec : {M : Type 1} → statement M
-kept_spec = tie.close (tie.spec (λ c. search rules) (λ c. rw c.if1.true) (λ c. rw c.if1.false))
+kept_spec = tie.close (tie.spec (λ c. search rules) (λ c. rw c.if-stays.true) (λ c. rw c.if-stays.false))

@@ -13,68 +13,66 @@ use Rattle.survey.proofs.Surveying.{CountedBelow, counted_more}
 use Rattle.survey.proofs.counted.pairs_of_state.Statement.{statement}
 use Rattle.survey.proofs.counted.pairs_of_state.Tie as tie
 
-abbrev invariant-loop : tie.invariant-loop
+abbrev invariant-loop : tie.invariant-loop-a
 invariant-loop n m targets marks homes q first home found₀ a₀ found a = (a ≤ m) × CountedBelow (stays_in n m targets homes) (required_in m marks) q a found
 
-abbrev decreases-loop : tie.decreases-loop
+abbrev decreases-loop : tie.decreases-loop-a
 decreases-loop n m targets marks homes q first home found₀ a₀ found a = m - a
 
-module _ (c : tie.In-loop invariant-loop decreases-loop) where
+module _ (c : tie.In-loop-a invariant-loop decreases-loop) where
   abbrev start : tie.Start invariant-loop decreases-loop
   start = c.before.before.before.before.before.before
 
   abbrev place : ℕ
-  place = start.args.q * start.args.m + c.before.loop.a
+  place = start.args.q * start.args.m + c.loop-a.a
 
   -- the cell is one of the system's
   here : place < start.args.n * start.args.m
-  here = cell_within _ _ start.args.q c.before.loop.a start.pre.1 c.loop-test.true
+  here = cell_within _ _ start.args.q c.loop-a.a start.requires.1 c.loop-a-test.true
 
-mul-first : tie.Need-overflow-mul-first invariant-loop decreases-loop
-mul-first c = let s = c.before.before.before in omega (arith, row_within s.args.n s.args.m s.args.q s.requires.1, s.requires.0.target_room)
+mul-first : tie.Need-overflow_mul-first invariant-loop decreases-loop
+mul-first c = let s = c in omega (arith, row_within s.args.n s.args.m s.args.q s.requires.1, s.requires.0.target_room)
 
-shared-slice-read-home : tie.Need-shared-slice-read-home invariant-loop decreases-loop
-shared-slice-read-home c = let s = c.before.before.before.before in omega (arith, s.requires.1, s.requires.0.home_room)
+shared-slice-read-home : tie.Need-bounds-homes-q invariant-loop decreases-loop
+shared-slice-read-home c = let s = c in omega (arith, s.requires.1, s.requires.0.home_room)
 
-add-is-home : tie.Need-overflow-add-is-home invariant-loop decreases-loop
-add-is-home c = let u = here (c) in let r = c.before.before.before.before.before.before.requires.0.target_room in omega arith
+add-is-home : tie.Need-overflow_add-first invariant-loop decreases-loop
+add-is-home c = let u = here (c) in let r = c.requires.0.target_room in omega arith
 
-mul-is-home : tie.Need-overflow-mul-is-home invariant-loop decreases-loop
-mul-is-home c = let u = here (c) in let r = c.before.before.before.before.before.before.requires.0.target_room in omega arith
+mul-is-home : tie.Need-offset_bounds-targets-first invariant-loop decreases-loop
+mul-is-home c = let u = here (c) in let r = c.requires.0.target_room in omega arith
 
-shared-slice-read-is-home : tie.Need-shared-slice-read-is-home invariant-loop decreases-loop
-shared-slice-read-is-home c = let u = here c.before in let r = c.before.before.before.before.before.before.before.requires.0.target_room in omega arith
+shared-slice-read-is-home : tie.Need-bounds-targets-first invariant-loop decreases-loop
+shared-slice-read-is-home c = let u = here c.before in let r = c.requires.0.target_room in omega arith
 
-is-home-requires : tie.Need-is-home-requires invariant-loop decreases-loop
-is-home-requires c κs = c.before.before.before.before.before.before.before.requires.0.home_room
+is-home-requires : tie.Need-is_home-stays-requires invariant-loop decreases-loop
+is-home-requires c κs = c.requires.0.home_room
 
-add_kept : tie.Need-overflow-add-kept invariant-loop decreases-loop
-add_kept c = let u = here c.before.before in let r = c.before.before.before.before.before.before.before.before.requires.0.mark_room in omega arith
+add_kept : tie.Need-overflow_add-first-in-loop-a invariant-loop decreases-loop
+add_kept c = let u = here c.before.before in let r = c.requires.0.mark_room in omega arith
 
-mul-kept : tie.Need-overflow-mul-kept invariant-loop decreases-loop
-mul-kept c = let u = here c.before.before in let r = c.before.before.before.before.before.before.before.before.requires.0.mark_room in omega arith
+mul-kept : tie.Need-offset_bounds-marks-first invariant-loop decreases-loop
+mul-kept c = let u = here c.before.before in let r = c.requires.0.mark_room in omega arith
 
-shared-slice-read-kept : tie.Need-shared-slice-read-kept invariant-loop decreases-loop
-shared-slice-read-kept c = let u = here c.before.before.before in let r = c.before.before.before.before.before.before.before.before.before.requires.0.mark_room in omega arith
+shared-slice-read-kept : tie.Need-bounds-marks-first invariant-loop decreases-loop
+shared-slice-read-kept c = let u = here c.before.before.before in let r = c.requires.0.mark_room in omega arith
 
-loop-again : tie.Need-loop-preserved invariant-loop decreases-loop
+loop-again : tie.Need-loop-a-preserved invariant-loop decreases-loop
 loop-again c =
-    let u : tie.In-loop invariant-loop decreases-loop = c.before.before.before.before in
+    let u : tie.In-loop-a invariant-loop decreases-loop = c.before.before.before.before in
     let s = start u in
-    let i = u.before.loop in
+    let i = u.loop-a in
     let ts = s.args.targets.now in
-    let same = get_d_any ts (place u) 0 no_row (omega (arith, here u, s.pre.0.target_room)) in
-    let stays = rw same at c.before.before.is_home.ensures in
-    (omega arith, rw (c.kept.ensures, stays) (counted_more (stays_in s.args.n s.args.m ts s.args.homes.now) (required_in s.args.m s.args.marks.now) s.args.q i.a i.found _ i.invariant.1 (λ j. refl)))
+    let same = get_d_any ts (place u) 0 no_row (omega (arith, here u, s.requires.0.target_room)) in
+    let stays = rw same at c.is_home-stays.ensures in
+    (omega arith, rw (c.kept-found.ensures, stays) (counted_more (stays_in s.args.n s.args.m ts s.args.homes.now) (required_in s.args.m s.args.marks.now) s.args.q i.a i.found _ i.invariant.1 (λ j. refl)))
 
 returns : tie.Need-returns invariant-loop decreases-loop
 returns c =
-    let i = c.before.loop.invariant in
-    rw (le_antisymm i.0 c.loop-test.false) at i.1
+    let i = c.loop-a.invariant in
+    rw (le_antisymm i.0 c.loop-a-test.false) at i.1
 
 pub pairs_of_state_spec : {M : Type 1} → statement M
 pairs_of_state_spec =
     tie.close
-    (tie.spec invariant-loop decreases-loop mul-first (λ c. search rules) shared-slice-read-home (λ c. (omega arith, bit_none)) add-is-home mul-is-home
-    shared-slice-read-is-home is-home-requires add_kept mul-kept shared-slice-read-kept (λ c κs. search rules) (λ c. search rules) (λ c. search rules)
-    loop-again returns)
+    (tie.spec invariant-loop decreases-loop mul-first (λ c. search rules) shared-slice-read-home (λ c. (omega arith, bit_none)) add-is-home mul-is-home shared-slice-read-is-home is-home-requires add_kept mul-kept shared-slice-read-kept (λ c κs. search rules) (λ c. search rules) (λ c. search rules) loop-again returns)

@@ -8,22 +8,21 @@ use Rattle.survey.proofs.Surveying.{required_none, required_more}
 use Rattle.survey.proofs.counted.required_somewhere.Statement.{statement}
 use Rattle.survey.proofs.counted.required_somewhere.Tie as tie
 
-abbrev invariant-loop : tie.invariant-loop
+abbrev invariant-loop : tie.invariant-loop-c
 invariant-loop marks cells all₀ c₀ all c = (c ≤ cells) × RequiredBelow marks c all
 
-abbrev decreases-loop : tie.decreases-loop
+abbrev decreases-loop : tie.decreases-loop-c
 decreases-loop marks cells all₀ c₀ all c = cells - c
 
-loop-again : tie.Need-loop-preserved invariant-loop decreases-loop
+loop-again : tie.Need-loop-c-preserved invariant-loop decreases-loop
 loop-again x =
-    let i = x.before.before.before.loop in
-    (omega arith, rw x.kept.ensures (required_more x.before.before.before.before.before.args.marks.now i.c i.all i.invariant.1))
+    let i = x.loop-c in
+    (omega arith, rw x.kept-all.ensures (required_more x.args.marks.now i.c i.all i.invariant.1))
 
 returns : tie.Need-returns invariant-loop decreases-loop
-returns x = rw (le_antisymm x.before.loop.invariant.0 x.loop-test.false) at x.before.loop.invariant.1
+returns x = rw (le_antisymm x.loop-c.invariant.0 x.loop-c-test.false) at x.loop-c.invariant.1
 
 pub required_somewhere_spec : {M : Type 1} → statement M
 required_somewhere_spec =
     tie.close
-    (tie.spec invariant-loop decreases-loop (λ c. (omega arith, required_none c.before.args.marks.now)) (λ c. search rules) (λ c. search rules) (λ c κs. search rules) (λ c. search rules) (λ c. search rules)
-    loop-again returns)
+    (tie.spec invariant-loop decreases-loop (λ c. (omega arith, required_none c.args.marks.now)) (λ c. search rules) (λ c. search rules) (λ c κs. search rules) (λ c. search rules) (λ c. search rules) loop-again returns)

@@ -7,8 +7,8 @@ use Rattle.survey.proofs.homes.find_homes.Tie as tie
 
 returns : tie.Need-returns
 returns c =
-    let s = c.before.before.before.before.before.before.before.before in
-    let f = c.before.before.before.find-components.ensures in
+    let s = c in
+    let f = c.find_components.ensures in
     rw (f.answer ∙ homes_fit _ _ _ _ s.requires.0 s.requires.1 s.requires.2 s.requires.3) at f.array
 
 pub find_homes_spec : {M : Type 1} → statement M

@@ -10,28 +10,26 @@ use Rattle.rules.proofs.Filling.{Filled, filled_none, filled_more, filled_over}
 use Rattle.survey.proofs.layout.lay_marks.Statement.{statement}
 use Rattle.survey.proofs.layout.lay_marks.Tie as tie
 
-abbrev invariant-loop : tie.invariant-loop
+abbrev invariant-loop : tie.invariant-loop-c
 invariant-loop bytes cells marks₀ c₀ marks c = (c ≤ cells) × Filled (λ i v. v ≡ get_or bytes (suc (2 * i)) 0 * 256 + get_or bytes (2 * i) 0) marks₀ marks c
 
-abbrev decreases-loop : tie.decreases-loop
+abbrev decreases-loop : tie.decreases-loop-c
 decreases-loop bytes cells marks₀ c₀ marks c = cells - c
 
-slice-write-marks : tie.Need-slice-write-marks invariant-loop decreases-loop
-slice-write-marks c = omega (arith, c.before.before.before.before.loop.invariant.1.size)
+slice-write-marks : tie.Need-bounds-marks-c invariant-loop decreases-loop
+slice-write-marks c = omega (arith, c.loop-c.invariant.1.size)
 
-loop-again : tie.Need-loop-preserved invariant-loop decreases-loop
+loop-again : tie.Need-loop-c-preserved invariant-loop decreases-loop
 loop-again c =
-    let i = c.before.before.before.before.loop in
-    (omega arith, filled_more _ _ _ i.c _ (omega arith) (rw (add-one (2 * i.c)) at c.mask-of.ensures) i.invariant.1)
+    let i = c.loop-c in
+    (omega arith, filled_more _ _ _ i.c _ (omega arith) (rw (add-one (2 * i.c)) at c.mask_of.ensures) i.invariant.1)
 
 returns : tie.Need-returns invariant-loop decreases-loop
 returns c =
-    let i = c.before.loop.invariant in
-    filled_over _ _ _ _ (omega arith) (rw (le_antisymm i.0 c.loop-test.false) at i.1)
+    let i = c.loop-c.invariant in
+    filled_over _ _ _ _ (omega arith) (rw (le_antisymm i.0 c.loop-c-test.false) at i.1)
 
 pub lay_marks_spec : {M : Type 1} → statement M
 lay_marks_spec =
     tie.close
-    (tie.spec invariant-loop decreases-loop (λ c. (omega arith, filled_none _ _)) (λ c. search rules) (λ c. search rules) (λ c. search rules) (λ c. search rules)
-    (λ c. search rules) (λ c κs. search rules) (λ c. search rules) slice-write-marks (λ c. search rules) (λ c. search rules) loop-again
-    (λ c. c.before.loop.invariant.1.size) returns)
+    (tie.spec invariant-loop decreases-loop (λ c. (omega arith, filled_none _ _)) (λ c. search rules) (λ c. search rules) (λ c. search rules) (λ c. search rules) (λ c. search rules) (λ c κs. search rules) (λ c. search rules) slice-write-marks (λ c. search rules) (λ c. search rules) loop-again (λ c. c.loop-c.invariant.1.size) returns)

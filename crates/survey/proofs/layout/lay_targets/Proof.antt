@@ -10,25 +10,23 @@ use Rattle.survey.specs.Layouts.{wide_target}
 use Rattle.survey.proofs.layout.lay_targets.Statement.{statement}
 use Rattle.survey.proofs.layout.lay_targets.Tie as tie
 
-abbrev invariant-loop : tie.invariant-loop
+abbrev invariant-loop : tie.invariant-loop-c
 invariant-loop bytes targets₀ c₀ targets c = (c ≤ length bytes) × Filled (λ i v. v ≡ wide_target (get_or bytes i 0)) targets₀ targets c
 
-abbrev decreases-loop : tie.decreases-loop
+abbrev decreases-loop : tie.decreases-loop-c
 decreases-loop bytes targets₀ c₀ targets c = length bytes - c
 
-loop-again : tie.Need-loop-preserved invariant-loop decreases-loop
+loop-again : tie.Need-loop-c-preserved invariant-loop decreases-loop
 loop-again c =
-    let i = c.before.before.before.loop in
-    (omega arith, filled_more _ _ _ i.c _ (omega arith) c.wide-target.ensures i.invariant.1)
+    let i = c.loop-c in
+    (omega arith, filled_more _ _ _ i.c _ (omega arith) c.wide_target.ensures i.invariant.1)
 
 returns : tie.Need-returns invariant-loop decreases-loop
 returns c =
-    let i = c.before.loop.invariant in
-    filled_over _ _ _ _ (omega arith) (rw (le_antisymm i.0 c.loop-test.false) at i.1)
+    let i = c.loop-c.invariant in
+    filled_over _ _ _ _ (omega arith) (rw (le_antisymm i.0 c.loop-c-test.false) at i.1)
 
 pub lay_targets_spec : {M : Type 1} → statement M
 lay_targets_spec =
     tie.close
-    (tie.spec invariant-loop decreases-loop (λ c. (omega arith, filled_none _ _)) (λ c. search rules) (λ c κs. search rules) (λ c. search rules)
-    (λ c. omega (arith, c.before.before.before.loop.invariant.1.size)) (λ c. search rules) (λ c. search rules) loop-again
-    (λ c. c.before.loop.invariant.1.size) returns)
+    (tie.spec invariant-loop decreases-loop (λ c. (omega arith, filled_none _ _)) (λ c. search rules) (λ c κs. search rules) (λ c. search rules) (λ c. omega (arith, c.loop-c.invariant.1.size)) (λ c. search rules) (λ c. search rules) loop-again (λ c. c.loop-c.invariant.1.size) returns)
