@@ -7,37 +7,36 @@ use Rattle.forecast.proofs.Counting.{FiguresBelow, figures_none, rows_few, figur
 use Rattle.forecast.proofs.sum_up.Statement.{statement}
 use Rattle.forecast.proofs.sum_up.Tie as tie
 
-abbrev invariant-loop : tie.invariant-loop
+abbrev invariant-loop : tie.invariant-loop-q
 invariant-loop n homes counted rows₀ most₀ q₀ rows most q = (q ≤ n) × FiguresBelow n homes counted q rows most
 
-abbrev decreases-loop : tie.decreases-loop
+abbrev decreases-loop : tie.decreases-loop-q
 decreases-loop n homes counted rows₀ most₀ q₀ rows most q = n - q
 
-rows-at-requires : tie.Need-rows-at-requires invariant-loop decreases-loop
-rows-at-requires c κs = c.before.before.before.before.before.before.requires.3 _ c.before.before.loop-test.true
+rows-at-requires : tie.Need-rows_at-rows-requires invariant-loop decreases-loop
+rows-at-requires c κs = c.requires.3 _ c.loop-q-test.true
 
-add-rows : tie.Need-overflow-add-rows invariant-loop decreases-loop
+add-rows : tie.Need-overflow_add-rows invariant-loop decreases-loop
 add-rows c =
-    let s = c.before.before.before.before.before.before.before in
-    let i = c.before.before.before.before.loop in
-    let l = c.before.before.before.loop-test.true in
-    omega (arith, i.invariant.1.few_rows, s.requires.0, c.rows_at.ensures, rows_few s.args.n s.args.homes.now s.args.counted.now i.q (s.requires.3 i.q l))
+    let s = c in
+    let i = c.loop-q in
+    let l = c.loop-q-test.true in
+    omega (arith, i.invariant.1.few_rows, s.requires.0, c.rows_at-rows.ensures, rows_few s.args.n s.args.homes.now s.args.counted.now i.q (s.requires.3 i.q l))
 
-loop-again : tie.Need-loop-preserved invariant-loop decreases-loop
+loop-again : tie.Need-loop-q-preserved invariant-loop decreases-loop
 loop-again c =
-    let s = c.before.before.before.before.before.before.before.before in
-    let i = c.before.before.before.before.before.loop in
-    let l = c.before.before.before.before.loop-test.true in
-    (omega arith, rw (c.before.rows_at.ensures, c.larger.ensures) (figures_more s.args.n s.args.homes.now s.args.counted.now i.q i.rows i.most (s.requires.3 i.q l) i.invariant.1))
+    let s = c in
+    let i = c.loop-q in
+    let l = c.loop-q-test.true in
+    (omega arith, rw (c.rows_at-rows.ensures, c.larger-most.ensures) (figures_more s.args.n s.args.homes.now s.args.counted.now i.q i.rows i.most (s.requires.3 i.q l) i.invariant.1))
 
 returns : tie.Need-returns invariant-loop decreases-loop
 returns c =
-    let i = c.before.loop.invariant in
-    let x = rw (le_antisymm i.0 c.loop-test.false) at i.1 in
+    let i = c.loop-q.invariant in
+    let x = rw (le_antisymm i.0 c.loop-q-test.false) at i.1 in
     record { row_sum = x.row_sum; most_pairs = x.most_pairs; few_pairs = x.few_pairs }
 
 pub sum_up_spec : {M : Type 1} → statement M
 sum_up_spec =
     tie.close
-    (tie.spec invariant-loop decreases-loop (λ c. (omega arith, figures_none _ _ _)) (λ c. search rules) (λ c. search rules) (λ c. search rules) rows-at-requires add-rows (λ c κs. search rules)
-    (λ c. search rules) (λ c. search rules) loop-again returns)
+    (tie.spec invariant-loop decreases-loop (λ c. (omega arith, figures_none _ _ _)) (λ c. search rules) (λ c. search rules) (λ c. search rules) rows-at-requires add-rows (λ c κs. search rules) (λ c. search rules) (λ c. search rules) loop-again returns)

@@ -13,46 +13,44 @@ use Rattle.translate.proofs.Promises.{kept_few, kept_sources, translate_nothing,
 use Rattle.translate.proofs.translate_in.Statement.{statement}
 use Rattle.translate.proofs.translate_in.Tie as tie
 
-returns : tie.Need-returns
+returns : tie.Need-returns-then-number-ne0
 returns c =
-    promised (translate_nothing _ _ _ _ _ _ _ _ _ c.before.before.before.before.before.before.letters-of.ensures c.before.before.before.before.before.are-short.ensures c.before.before.before.encode-table.ensures.refusal c.if1.true)
+    promised (translate_nothing _ _ _ _ _ _ _ _ _ c.letters_of-m.ensures c.are_short-short.ensures c.encode_table-encoded.ensures.refusal c.if-number-ne0.true)
 
 -- the table is well formed and encoded, and the arrays are long enough
-module _ (c : tie.Else1) where
+module _ (c : tie.Else-number-ne0) where
   abbrev lent : tie.Start
   lent = c.before.before.before.before.before.before.before.before.before.before.before.before.before
 
-  none : (table_fault lent.args.table.now ≡ 0) × (when c.before.before.before.before.before.are-short.result 7 ≡ 0)
-  none = first_zero _ _ (sym c.before.before.before.encode-table.ensures.refusal ∙ c.if1.false)
+  none : (table_fault lent.args.table.now ≡ 0) × (when c.are_short-short.result 7 ≡ 0)
+  none = first_zero _ _ (sym c.encode_table-encoded.ensures.refusal ∙ c.if-number-ne0.false)
 
-  task : let t = table_of lent.args.table.now in let x = c.before.before.before.encode-table in
-      (x.result.start ≡ entry_key t t.start) × (x.result.used ≤ length x.new.1.1.1.0) × TableCodes t (take x.result.used x.new.1.1.1.0)
-  task = c.before.before.before.encode-table.ensures.task c.if1.false
+  task : let t = table_of lent.args.table.now in let x = c.encode_table-encoded in
+      (x.result.start ≡ entry_key t t.start) × (x.result.used ≤ length x.new.cells) × TableCodes t (take x.result.used x.new.cells)
+  task = c.encode_table-encoded.ensures.task c.if-number-ne0.false
 
-  same : c.before.before.before.before.before.before.letters-of.result ≡ (table_of lent.args.table.now).letters
-  same = c.before.before.before.before.before.before.letters-of.ensures
+  same : c.letters_of-m.result ≡ (table_of lent.args.table.now).letters
+  same = c.letters_of-m.ensures
 
   enough : let a = lent.args in
-      ArrayFacts a.capacity c.before.before.before.before.before.before.letters-of.result (length a.targets.now) (length a.priorities.now) (length a.sources.now) (length a.records.now)
-  enough = array_facts _ _ _ _ _ _ (sym c.before.before.before.before.before.are-short.ensures ∙ when_none _ _ none.1)
+      ArrayFacts a.capacity c.letters_of-m.result (length a.targets.now) (length a.priorities.now) (length a.sources.now) (length a.records.now)
+  enough = array_facts _ _ _ _ _ _ (sym c.are_short-short.ensures ∙ when_none _ _ none.1)
 
-leave-rows-requires : tie.Need-leave-rows-requires
+leave-rows-requires : tie.Need-leave_rows-requires
 leave-rows-requires c κs =
-    let e = c.before.before.before.before.before.before.before.before.before.before.before.before.before.before.before.before in
-    let x = c.before.before.before.before.before.before.before.before.before.before.before.find-rows in
-    let n = c.before.before.before.before.told.ensures.1 in
+    let e = c.before.before.before.before.before.before.before.before.before.before.before.before.before.before.before in
+    let x = c.find_rows-explored in
+    let n = c.told-told.ensures.1 in
     let few = kept_few _ _ _ _ _ (lent e).args.sources.now _ (none e).0 (same e) (enough e) (task e).0 (task e).2 x.ensures n in
     (omega (arith, enough e, few, same e, table_facts _ (none e).0, x.auto), kept_sources _ _ _ _ _ (lent e).args.sources.now _ (none e).0 (same e) (enough e) (task e).0 (task e).2 x.ensures n)
 
-returns_2 : tie.Need-returns-2
+returns_2 : tie.Need-returns
 returns_2 c =
-    let e = c.before.before.before.before.before.before.before.before.before.before.before.before.before.before.before.before.before.before.before.before.before.before.before.before.before in
-    let told = c.before.before.before.before.before.before.before.before.before.before.before.before.before.told.ensures in
-    promised (translate_explored _ _ _ _ _ _ _ (none e).0 (same e) (enough e) (task e).0 (task e).2 c.before.before.before.before.before.before.before.before.before.before.before.before.before.before.before.before.before.before.before.before.find-rows.ensures told.0 told.1 c.before.before.before.before.before.before.before.before.leave-rows.ensures)
+    let e = c.before.before.before.before.before.before.before.before.before.before.before.before.before.before.before.before.before.before.before.before.before.before.before.before in
+    let told = c.told-told.ensures in
+    promised (translate_explored _ _ _ _ _ _ _ (none e).0 (same e) (enough e) (task e).0 (task e).2 c.find_rows-explored.ensures told.0 told.1 c.leave_rows.ensures)
 
 pub translate_in_spec : {M : Type 1} → statement M
 translate_in_spec =
     tie.close
-    (tie.spec (λ c κs. search rules) (λ c κs. search rules) (λ c κs. search rules) (λ c. search rules) returns (λ c. search rules)
-    (λ c. (task c).1) (λ c. sym (length-take-le _ _ (task c.before).1)) (λ c κs. search rules) (λ c κs. search rules) leave-rows-requires (λ c. search rules)
-    (λ c. search rules) (λ c. search rules) (λ c. search rules) (λ c. search rules) returns_2)
+    (tie.spec (λ c κs. search rules) (λ c κs. search rules) (λ c κs. search rules) (λ c. search rules) returns (λ c. search rules) (λ c. (task c).1) (λ c. sym (length-take-le _ _ (task c).1)) (λ c κs. search rules) (λ c κs. search rules) leave-rows-requires (λ c. search rules) (λ c. search rules) (λ c. search rules) (λ c. search rules) (λ c. search rules) returns_2)

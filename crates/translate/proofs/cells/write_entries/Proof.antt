@@ -12,38 +12,35 @@ use Rattle.translate.proofs.CellCodes.{key_small}
 use Rattle.translate.proofs.cells.write_entries.Statement.{statement}
 use Rattle.translate.proofs.cells.write_entries.Tie as tie
 
-abbrev invariant-loop : tie.invariant-loop
+abbrev invariant-loop : tie.invariant-loop-q
 invariant-loop n counted entries₀ q₀ entries q = (q ≤ n) × Filled (λ i v. v ≡ rising_key i (get_or counted i 0)) entries₀ entries q
 
-abbrev decreases-loop : tie.decreases-loop
+abbrev decreases-loop : tie.decreases-loop-q
 decreases-loop n counted entries₀ q₀ entries q = n - q
 
 -- the record of a state is small, and so is its state
-module _ (c : tie.After-rising invariant-loop decreases-loop) where
+module _ (c : tie.After-rising-order invariant-loop decreases-loop) where
   abbrev q : ℕ
-  q = c.before.before.before.loop.q
+  q = c.loop-q.q
 
-  small : (c.rising.result.code < span) × (q < 64)
+  small : (c.rising-order.result.code < span) × (q < 64)
   small =
-      let s = c.before.before.before.before.before.before in
-      let l = c.before.before.loop-test.true in
-      (omega (arith, c.rising.ensures, key_small 0 (get_or s.args.counted.now q 0)), omega (arith, s.requires.0))
+      let s = c in
+      let l = c.loop-q-test.true in
+      (omega (arith, c.rising-order.ensures, key_small 0 (get_or s.args.counted.now q 0)), omega (arith, s.requires.0))
 
-loop-again : tie.Need-loop-preserved invariant-loop decreases-loop
+loop-again : tie.Need-loop-q-preserved invariant-loop decreases-loop
 loop-again c =
-    let i = c.before.before.before.before.loop in
-    (omega arith, filled_more _ _ _ i.q _ (omega arith) (ap (key_of i.q) c.before.rising.ensures) i.invariant.1)
+    let i = c.loop-q in
+    (omega arith, filled_more _ _ _ i.q _ (omega arith) (ap (key_of i.q) c.rising-order.ensures) i.invariant.1)
 
 returns : tie.Need-returns invariant-loop decreases-loop
 returns c =
-    let i = c.before.loop in
-    let f = rw (le_antisymm i.invariant.0 c.loop-test.false) at i.invariant.1 in
-    record { enough = omega (arith, c.before.before.before.before.requires.2, f.size); entry = f.done }
+    let i = c.loop-q in
+    let f = rw (le_antisymm i.invariant.0 c.loop-q-test.false) at i.invariant.1 in
+    record { enough = omega (arith, c.requires.2, f.size); entry = f.done }
 
 pub write_entries_spec : {M : Type 1} → statement M
 write_entries_spec =
     tie.close
-    (tie.spec invariant-loop decreases-loop (λ c. (omega arith, filled_none _ _)) (λ c. search rules) (λ c κs. search rules) (λ c. omega (arith, small (c)))
-    (λ c. omega (arith, small (c))) (λ c. omega (arith, small c.before)) (λ c. omega (arith, small c.before))
-    (λ c. omega (arith, c.before.before.before.before.loop.invariant.1.size)) (λ c. omega (arith, small c.before)) (λ c. search rules) loop-again
-    (λ c. c.before.loop.invariant.1.size) returns)
+    (tie.spec invariant-loop decreases-loop (λ c. (omega arith, filled_none _ _)) (λ c. search rules) (λ c κs. search rules) (λ c. omega (arith, small (c))) (λ c. omega (arith, small (c))) (λ c. omega (arith, small c.before)) (λ c. omega (arith, small c.before)) (λ c. omega (arith, c.loop-q.invariant.1.size)) (λ c. omega (arith, small c.before)) (λ c. search rules) loop-again (λ c. c.loop-q.invariant.1.size) returns)

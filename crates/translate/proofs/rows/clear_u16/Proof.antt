@@ -7,23 +7,21 @@ use Rattle.rules.proofs.Filling.{cleared_none, cleared_more}
 use Rattle.translate.proofs.rows.clear_u16.Statement.{statement}
 use Rattle.translate.proofs.rows.clear_u16.Tie as tie
 
-abbrev invariant-loop : tie.invariant-loop
+abbrev invariant-loop : tie.invariant-loop-i
 invariant-loop array₀ from to i₀ array i = (from ≤ i) × (i ≤ to) × Cleared from i array₀ array
 
-abbrev decreases-loop : tie.decreases-loop
+abbrev decreases-loop : tie.decreases-loop-i
 decreases-loop array₀ from to i₀ array i = to - i
 
-loop-again : tie.Need-loop-preserved invariant-loop decreases-loop
+loop-again : tie.Need-loop-i-preserved invariant-loop decreases-loop
 loop-again c =
-    let i = c.before.loop in
-    (omega arith, omega arith, cleared_more c.before.before.args.from i.i c.before.before.args.array.now i.array i.invariant.0 (omega (arith, c.before.before.requires.1)) i.invariant.2)
+    let i = c.loop-i in
+    (omega arith, omega arith, cleared_more c.args.from i.i c.args.array.now i.array i.invariant.0 (omega (arith, c.requires.1)) i.invariant.2)
 
 returns : tie.Need-returns invariant-loop decreases-loop
-returns c = let i = c.before.loop in rw (le_antisymm i.invariant.1 c.loop-test.false) at i.invariant.2
+returns c = let i = c.loop-i in rw (le_antisymm i.invariant.1 c.loop-i-test.false) at i.invariant.2
 
 pub clear_u16_spec : {M : Type 1} → statement M
 clear_u16_spec =
     tie.close
-    (tie.spec invariant-loop decreases-loop (λ c. (le_refl c.args.from, c.requires.0, cleared_none c.args.from c.args.array.now)) (λ c. omega arith)
-    (λ c. omega (arith, c.before.loop.invariant.2.size, c.before.before.requires.1)) (λ c. omega arith) (λ c. omega arith) loop-again
-    (λ c. c.before.loop.invariant.2.size) returns)
+    (tie.spec invariant-loop decreases-loop (λ c. (le_refl c.args.from, c.requires.0, cleared_none c.args.from c.args.array.now)) (λ c. omega arith) (λ c. omega (arith, c.loop-i.invariant.2.size, c.requires.1)) (λ c. omega arith) (λ c. omega arith) loop-again (λ c. c.loop-i.invariant.2.size) returns)

@@ -9,43 +9,37 @@ use Rattle.translate.proofs.Unpacking.{unpacked_none, unpacked_more}
 use Rattle.translate.proofs.rows.unpack.Statement.{statement}
 use Rattle.translate.proofs.rows.unpack.Tie as tie
 
-abbrev invariant-loop : tie.invariant-loop
+abbrev invariant-loop : tie.invariant-loop-i
 invariant-loop n keys₀ sources₀ i₀ keys sources i = Unpacked i keys₀ keys sources₀ sources × (i ≤ n)
 
-abbrev decreases-loop : tie.decreases-loop
+abbrev decreases-loop : tie.decreases-loop-i
 decreases-loop n keys₀ sources₀ i₀ keys sources i = n - i
 
 -- the row is one of those
-module _ (c : tie.In-loop invariant-loop decreases-loop) where
+module _ (c : tie.In-loop-i invariant-loop decreases-loop) where
   abbrev s : tie.Start invariant-loop decreases-loop
   s = c.before.before.before.before
 
-  here : (c.before.loop.i < length c.before.loop.keys) × (c.before.loop.i < length c.before.loop.sources) × (c.before.loop.i < s.args.n)
-  here = let f = c.before.loop.invariant.0 in (omega (arith, f.key_rest.size, s.pre), omega (arith, f.state_rest.size, s.pre), c.loop-test.true)
+  here : (c.loop-i.i < length c.loop-i.keys) × (c.loop-i.i < length c.loop-i.sources) × (c.loop-i.i < s.args.n)
+  here = let f = c.loop-i.invariant.0 in (omega (arith, f.key_rest.size, s.requires), omega (arith, f.state_rest.size, s.requires), c.loop-i-test.true)
 
-  small : source_in (get_or c.before.loop.keys c.before.loop.i 0) < 256
-  small = rw (c.before.loop.invariant.0.key_rest.same c.before.loop.i (omega arith)) (s.pre.3 c.before.loop.i here.2)
+  small : source_in (get_or c.loop-i.keys c.loop-i.i 0) < 256
+  small = rw (c.loop-i.invariant.0.key_rest.same c.loop-i.i (omega arith)) (s.requires.3 c.loop-i.i here.2)
 
-loop-again : tie.Need-loop-preserved invariant-loop decreases-loop
+loop-again : tie.Need-loop-i-preserved invariant-loop decreases-loop
 loop-again c =
-    let s = c.before.before.before.before.before.before in
-    let turn = c.before.before.before.loop in
+    let s = c in
+    let turn = c.loop-i in
     let h = here c.before.before in
     (unpacked_more turn.i s.args.keys.now turn.keys s.args.sources.now turn.sources turn.invariant.0 (omega (arith, h, s.requires)) (omega (arith, h, s.requires)) _ _ refl c.number.ensures, omega (arith, h))
 
 returns : tie.Need-returns invariant-loop decreases-loop
 returns c =
-    let a = c.before.before.before.before.args in
-    let turn = c.before.loop in
-    subst (λ (z : ℕ). Unpacked z a.keys.now turn.keys a.sources.now turn.sources) (omega (arith, c.loop-test.false, turn.invariant.1)) turn.invariant.0
+    let a = c.args in
+    let turn = c.loop-i in
+    subst (λ (z : ℕ). Unpacked z a.keys.now turn.keys a.sources.now turn.sources) (omega (arith, c.loop-i-test.false, turn.invariant.1)) turn.invariant.0
 
 pub unpack_spec : {M : Type 1} → statement M
 unpack_spec =
     tie.close
-    (tie.spec invariant-loop decreases-loop (λ c. (unpacked_none _ _, omega arith)) (λ c. omega (arith, here (c), c.before.before.before.before.requires.0))
-    (λ c. omega (arith, here c.before)) (λ c. omega (arith, small c.before)) (λ c. omega (arith, here c.before)) (λ c κs. tt)
-    (λ c. omega (arith, here c.before.before, c.before.before.before.before.before.before.requires.0))
-    (λ c. omega (arith, here c.before.before))
-    (λ c. omega (arith, here c.before.before, c.before.before.before.before.before.before.requires.0))
-    (λ c. omega (arith, here c.before.before)) loop-again (λ c. c.before.loop.invariant.0.key_rest.size)
-    (λ c. c.before.loop.invariant.0.state_rest.size) returns)
+    (tie.spec invariant-loop decreases-loop (λ c. (unpacked_none _ _, omega arith)) (λ c. omega (arith, here (c), c.requires.0)) (λ c. omega (arith, here c.before)) (λ c. omega (arith, small c.before)) (λ c. omega (arith, here c.before)) (λ c κs. tt) (λ c. omega (arith, here c.before.before, c.requires.0)) (λ c. omega (arith, here c.before.before)) (λ c. omega (arith, here c.before.before, c.requires.0)) (λ c. omega (arith, here c.before.before)) loop-again (λ c. c.loop-i.invariant.0.key_rest.size) (λ c. c.loop-i.invariant.0.state_rest.size) returns)
