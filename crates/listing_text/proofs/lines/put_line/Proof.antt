@@ -8,22 +8,22 @@ use Rattle.listing_text.proofs.lines.put_line.Statement.{statement}
 use Rattle.listing_text.proofs.lines.put_line.Tie as tie
 
 -- the places after each field, and where the line began
-abbrev target_written : tie.After-put-optional3 → tie.After-put-optional2
+abbrev target_written : tie.After-put_optional → tie.After-put_optional-after_target
 target_written c = c.before.before.before.before
 
-abbrev letter_written : tie.After-put-optional2 → tie.After-put-field3
+abbrev letter_written : tie.After-put_optional-after_target → tie.After-put_field-after_letter
 letter_written c = c.before.before.before.before
 
-abbrev record_written : tie.After-put-field3 → tie.After-put-optional
+abbrev record_written : tie.After-put_field-after_letter → tie.After-put_optional-after_record
 record_written c = c.before.before.before.before
 
-abbrev state_written : tie.After-put-optional → tie.After-put-field2
+abbrev state_written : tie.After-put_optional-after_record → tie.After-put_field-after_state
 state_written c = c.before.before.before.before
 
-abbrev row_written : tie.After-put-field2 → tie.After-put-field
+abbrev row_written : tie.After-put_field-after_state → tie.After-put_field-after_row
 row_written c = c.before.before.before.before
 
-abbrev start : tie.After-put-field → tie.Start
+abbrev start : tie.After-put_field-after_row → tie.Start
 start c = c.before.before.before
 
 returns : tie.Need-returns
@@ -33,35 +33,34 @@ returns c =
     let letter = letter_written target in
     let number = record_written letter in
     let state = state_written number in
-    wrote_both (row_written state).put-field.ensures (wrote_both state.put-field2.ensures (wrote_both number.put-optional.ensures (wrote_both letter.put-field3.ensures (wrote_both target.put-optional2.ensures c.before.before.put-optional3.ensures))))
+    wrote_both (row_written state).put_field-after_row.ensures (wrote_both state.put_field-after_state.ensures (wrote_both number.put_optional-after_record.ensures (wrote_both letter.put_field-after_letter.ensures (wrote_both target.put_optional-after_target.ensures c.put_optional.ensures))))
 
 -- each field is in reach, as the line is
-put-field-requires : tie.Need-put-field-requires
+put-field-requires : tie.Need-put_field-after_row-requires
 unfolding line
-put-field-requires c κs = record { ends = omega (arith, simp length-append at c.before.before.requires.ends) }
+put-field-requires c κs = record { ends = omega (arith, simp length-append at c.requires.ends) }
 
-put-field-requires-2 : tie.Need-put-field-requires-2
+put-field-requires-2 : tie.Need-put_field-after_state-requires
 unfolding line
 put-field-requires-2 c κs = record { ends = omega (arith, simp length-append at (start c.before.before.before).requires.ends) }
 
-put-optional-requires : tie.Need-put-optional-requires
+put-optional-requires : tie.Need-put_optional-after_record-requires
 unfolding line
 put-optional-requires c κs = record { ends = omega (arith, simp length-append at (start (row_written c.before.before.before)).requires.ends) }
 
-put-field-requires-3 : tie.Need-put-field-requires-3
+put-field-requires-3 : tie.Need-put_field-after_letter-requires
 unfolding line
 put-field-requires-3 c κs = record { ends = omega (arith, simp length-append at (start (row_written (state_written c.before.before.before))).requires.ends) }
 
-put-optional-requires-2 : tie.Need-put-optional-requires-2
+put-optional-requires-2 : tie.Need-put_optional-after_target-requires
 unfolding line
 put-optional-requires-2 c κs = record { ends = omega (arith, simp length-append at (start (row_written (state_written (record_written c.before.before.before)))).requires.ends) }
 
-put-optional-requires-3 : tie.Need-put-optional-requires-3
+put-optional-requires-3 : tie.Need-put_optional-requires
 unfolding line
 put-optional-requires-3 c κs = record { ends = omega (arith, simp length-append at (start (row_written (state_written (record_written (letter_written c.before.before.before))))).requires.ends) }
 
 pub put_line_spec : {M : Type 1} → statement M
 put_line_spec =
     tie.close
-    (tie.spec put-field-requires put-field-requires-2 put-optional-requires put-field-requires-3 put-optional-requires-2 put-optional-requires-3
-    (λ c. search rules) returns)
+    (tie.spec put-field-requires put-field-requires-2 put-optional-requires put-field-requires-3 put-optional-requires-2 put-optional-requires-3 (λ c. search rules) returns)

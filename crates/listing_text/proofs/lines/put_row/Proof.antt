@@ -11,44 +11,43 @@ use Rattle.rules.proofs.Arrays.{row_ends}
 use Rattle.listing_text.proofs.lines.put_row.Statement.{statement}
 use Rattle.listing_text.proofs.lines.put_row.Tie as tie
 
-abbrev invariant-loop : tie.invariant-loop
+abbrev invariant-loop : tie.invariant-loop-a
 invariant-loop out₀ at m row state number targets priorities next₀ a₀ out next a =
     (a ≤ m) × Wrote at (each a 0 (line_at m targets priorities row state number)) out₀ out next
 
-abbrev decreases-loop : tie.decreases-loop
+abbrev decreases-loop : tie.decreases-loop-a
 decreases-loop out₀ at m row state number targets priorities next₀ a₀ out next a = m - a
 
-loop-holds : tie.Need-loop-init invariant-loop decreases-loop
+loop-holds : tie.Need-loop-a-init invariant-loop decreases-loop
 unfolding each
 loop-holds c = (omega arith, wrote_none _ _)
 
-mul-put-line : tie.Need-overflow-mul-put-line invariant-loop decreases-loop
+mul-put-line : tie.Need-offset_bounds-targets-cell invariant-loop decreases-loop
 mul-put-line c =
-    let s = c.before.before.before.before.before.before in
+    let s = c in
     omega (arith, row_ends max_rows s.args.m s.args.row s.requires.2)
 
-put-line-requires : tie.Need-put-line-requires invariant-loop decreases-loop
+put-line-requires : tie.Need-put_line-next-requires invariant-loop decreases-loop
 unfolding row_lines
 put-line-requires c κs =
-    let s = c.before.before.before.before.before.before.before.before in
+    let s = c in
     let text = line_at s.args.m s.args.targets.now s.args.priorities.now s.args.row s.args.state s.args.number in
-    reach_next text s.requires.0 c.before.before.before.loop-test.true c.before.before.before.before.loop.invariant.1
+    reach_next text s.requires.0 c.loop-a-test.true c.loop-a.invariant.1
 
-loop-again : tie.Need-loop-preserved invariant-loop decreases-loop
+loop-again : tie.Need-loop-a-preserved invariant-loop decreases-loop
 loop-again c =
-    let s = c.before.before.before.before.before.before.before.before.before.before.before in
+    let s = c in
     let text = line_at s.args.m s.args.targets.now s.args.priorities.now s.args.row s.args.state s.args.number in
-    (omega arith, wrote_next text c.before.before.before.before.before.before.before.loop.invariant.1 c.before.before.put-line.ensures)
+    (omega arith, wrote_next text c.loop-a.invariant.1 c.put_line-next.ensures)
 
-same_length : tie.Need-same-length invariant-loop decreases-loop
-same_length c = wrote_length c.before.loop.invariant.1
+same_length : tie.Need-shape_of-out invariant-loop decreases-loop
+same_length c = wrote_length c.loop-a.invariant.1
 
 returns : tie.Need-returns invariant-loop decreases-loop
 unfolding row_lines
-returns c = rw (le_antisymm c.before.loop.invariant.0 c.loop-test.false) at c.before.loop.invariant.1
+returns c = rw (le_antisymm c.loop-a.invariant.0 c.loop-a-test.false) at c.loop-a.invariant.1
 
 pub put_row_spec : {M : Type 1} → statement M
 put_row_spec =
     tie.close
-    (tie.spec invariant-loop decreases-loop loop-holds (λ c. omega arith) (λ c. omega arith) (λ c. omega arith) (λ c. omega arith) mul-put-line (λ c. omega arith)
-    (λ c. omega arith) put-line-requires (λ c. omega arith) (λ c. omega arith) loop-again same_length returns)
+    (tie.spec invariant-loop decreases-loop loop-holds (λ c. omega arith) (λ c. omega arith) (λ c. omega arith) (λ c. omega arith) mul-put-line (λ c. omega arith) (λ c. omega arith) put-line-requires (λ c. omega arith) (λ c. omega arith) loop-again same_length returns)

@@ -10,41 +10,40 @@ use Rattle.rules.proofs.Arrays.{row_ends}
 use Rattle.listing_text.proofs.lines.put_rows.Statement.{statement}
 use Rattle.listing_text.proofs.lines.put_rows.Tie as tie
 
-abbrev invariant-loop : tie.invariant-loop
+abbrev invariant-loop : tie.invariant-loop-i
 invariant-loop out₀ at n m targets priorities sources records next₀ i₀ out next i =
     (i ≤ n) × Wrote at (each i 0 (lines_at m targets priorities sources records)) out₀ out next
 
-abbrev decreases-loop : tie.decreases-loop
+abbrev decreases-loop : tie.decreases-loop-i
 decreases-loop out₀ at n m targets priorities sources records next₀ i₀ out next i = n - i
 
-loop-holds : tie.Need-loop-init invariant-loop decreases-loop
+loop-holds : tie.Need-loop-i-init invariant-loop decreases-loop
 unfolding each
 loop-holds c = (omega arith, wrote_none _ _)
 
-put-row-requires : tie.Need-put-row-requires invariant-loop decreases-loop
+put-row-requires : tie.Need-put_row-next-requires invariant-loop decreases-loop
 unfolding lines
 put-row-requires c κs =
-    let s = c.before.before.before.before.before.before.before.before.before.before in
-    let test = c.before.before.before.loop-test.true in
+    let s = c in
+    let test = c.loop-i-test.true in
     let ends = row_ends _ s.args.m _ test in
     let text = lines_at s.args.m s.args.targets.now s.args.priorities.now s.args.sources.now s.args.records.now in
-    (reach_next text s.requires.0 test c.before.before.before.before.loop.invariant.1, s.requires.1.most_letters, omega arith, omega arith, omega arith)
+    (reach_next text s.requires.0 test c.loop-i.invariant.1, s.requires.1.most_letters, omega arith, omega arith, omega arith)
 
-loop-again : tie.Need-loop-preserved invariant-loop decreases-loop
+loop-again : tie.Need-loop-i-preserved invariant-loop decreases-loop
 loop-again c =
-    let s = c.before.before.before.before.before.before.before.before.before.before.before.before.before in
+    let s = c in
     let text = lines_at s.args.m s.args.targets.now s.args.priorities.now s.args.sources.now s.args.records.now in
-    (omega arith, wrote_next text c.before.before.before.before.before.before.before.loop.invariant.1 c.before.before.put-row.ensures)
+    (omega arith, wrote_next text c.loop-i.invariant.1 c.put_row-next.ensures)
 
-same_length : tie.Need-same-length invariant-loop decreases-loop
-same_length c = wrote_length c.before.loop.invariant.1
+same_length : tie.Need-shape_of-out invariant-loop decreases-loop
+same_length c = wrote_length c.loop-i.invariant.1
 
 returns : tie.Need-returns invariant-loop decreases-loop
 unfolding lines
-returns c = rw (le_antisymm c.before.loop.invariant.0 c.loop-test.false) at c.before.loop.invariant.1
+returns c = rw (le_antisymm c.loop-i.invariant.0 c.loop-i-test.false) at c.loop-i.invariant.1
 
 pub put_rows_spec : {M : Type 1} → statement M
 put_rows_spec =
     tie.close
-    (tie.spec invariant-loop decreases-loop loop-holds (λ c. omega arith) (λ c. omega arith) (λ c. omega arith) put-row-requires (λ c. omega arith)
-    (λ c. omega arith) loop-again same_length returns)
+    (tie.spec invariant-loop decreases-loop loop-holds (λ c. omega arith) (λ c. omega arith) (λ c. omega arith) put-row-requires (λ c. omega arith) (λ c. omega arith) loop-again same_length returns)

@@ -10,11 +10,11 @@ use Rattle.listing_text.proofs.text.put_byte.Tie as tie
 returns : tie.Need-returns
 returns c =
     record {
-      contents = ⊎_elim (λ w. w.1) (λ w. w.1 ∙ sym (set_out _ _ _ w.0.left)) c.if1.branch;
+      contents = ⊎_elim (λ w. w.out-is) (λ w. w.out-is ∙ sym (set_out _ _ _ w.if-at-out.false)) c.if-at-out.branch-raw;
       next = refl;
     }
 
-same_length : tie.Need-same-length
+same_length : tie.Need-shape_of-out
 same_length c = wrote_length (returns c)
 
 pub put_byte_spec : {M : Type 1} → statement M

@@ -9,26 +9,26 @@ use Rattle.listing_text.proofs.Writing.{wrote_none, wrote_length, wrote_next_byt
 use Rattle.listing_text.proofs.text.put_bytes.Statement.{statement}
 use Rattle.listing_text.proofs.text.put_bytes.Tie as tie
 
-abbrev invariant-loop : tie.invariant-loop
+abbrev invariant-loop : tie.invariant-loop-i
 invariant-loop out₀ at bytes next₀ i₀ out next i = (i ≤ length bytes) × Wrote at (take i bytes) out₀ out next
 
-abbrev decreases-loop : tie.decreases-loop
+abbrev decreases-loop : tie.decreases-loop-i
 decreases-loop out₀ at bytes next₀ i₀ out next i = length bytes - i
 
-loop-holds : tie.Need-loop-init invariant-loop decreases-loop
+loop-holds : tie.Need-loop-i-init invariant-loop decreases-loop
 loop-holds c = (omega arith, wrote_none _ _)
 
-put_byte_requires : tie.Need-put-byte-requires invariant-loop decreases-loop
-put_byte_requires c κs = reach_next_byte _ c.before.before.before.before.before.before.requires c.before.before.loop-test.true c.before.before.before.loop.invariant.1
+put_byte_requires : tie.Need-put_byte-next-requires invariant-loop decreases-loop
+put_byte_requires c κs = reach_next_byte _ c.requires c.loop-i-test.true c.loop-i.invariant.1
 
-loop-again : tie.Need-loop-preserved invariant-loop decreases-loop
-loop-again c = (omega arith, wrote_next_byte _ c.before.before.before.before.before.loop-test.true c.before.before.before.before.before.before.loop.invariant.1 c.before.before.put_byte.ensures)
+loop-again : tie.Need-loop-i-preserved invariant-loop decreases-loop
+loop-again c = (omega arith, wrote_next_byte _ c.loop-i-test.true c.loop-i.invariant.1 c.put_byte-next.ensures)
 
-same_length : tie.Need-same-length invariant-loop decreases-loop
-same_length c = wrote_length c.before.loop.invariant.1
+same_length : tie.Need-shape_of-out invariant-loop decreases-loop
+same_length c = wrote_length c.loop-i.invariant.1
 
 returns : tie.Need-returns invariant-loop decreases-loop
-returns c = rw (take_all _ _ c.loop-test.false) at c.before.loop.invariant.1
+returns c = rw (take_all _ _ c.loop-i-test.false) at c.loop-i.invariant.1
 
 pub put_bytes_spec : {M : Type 1} → statement M
 put_bytes_spec =

@@ -7,25 +7,25 @@ use Rattle.listing_text.proofs.Writing.{wrote_both, reach_first, reach_then}
 use Rattle.listing_text.proofs.text.put_optional.Statement.{statement}
 use Rattle.listing_text.proofs.text.put_optional.Tie as tie
 
-put_byte_requires : tie.Need-put-byte-requires
+put_byte_requires : tie.Need-put_byte-next-requires
 unfolding optional
-put_byte_requires c κs = reach_first (dash ∷ []) _ (rw c.before.if1.true at c.before.before.before.requires)
+put_byte_requires c κs = reach_first (dash ∷ []) _ (rw c.if-none.true at c.requires)
 
-put_byte_requires_2 : tie.Need-put-byte-requires-2
+put_byte_requires_2 : tie.Need-put_byte-requires
 unfolding optional
-put_byte_requires_2 c κs = reach_then _ (rw c.before.before.before.before.before.if1.true at c.before.before.before.before.before.before.before.requires) c.before.before.before.put_byte.ensures
+put_byte_requires_2 c κs = reach_then _ (rw c.if-none.true at c.requires) c.put_byte-next.ensures
 
-returns : tie.Need-returns
+returns : tie.Need-returns-then-none
 unfolding optional
-returns c = rw c.before.before.before.before.before.before.before.before.if1.true (wrote_both c.before.before.before.before.before.before.put_byte.ensures c.before.before.put-byte2.ensures)
+returns c = rw c.if-none.true (wrote_both c.put_byte-next.ensures c.put_byte.ensures)
 
-put-field-requires : tie.Need-put-field-requires
+put-field-requires : tie.Need-put_field-requires
 unfolding field optional
-put-field-requires c κs = rw c.before.if1.false at c.before.before.before.requires
+put-field-requires c κs = rw c.if-none.false at c.requires
 
-returns_2 : tie.Need-returns-2
+returns_2 : tie.Need-returns
 unfolding field optional
-returns_2 c = rw c.before.before.before.before.if1.false c.before.before.put-field.ensures
+returns_2 c = rw c.if-none.false c.put_field.ensures
 
 pub put_optional_spec : {M : Type 1} → statement M
 put_optional_spec =
