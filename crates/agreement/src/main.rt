@@ -9,7 +9,7 @@ ghost use Rattle.judge.specs.Judgements.{answer_of};
 
 use judge::{Judged, judge_parity};
 use judge_rabin::judge_rabin;
-use libc::STDOUT_FILENO;
+use std::io;
 use tables::letters_of;
 use translate::translate_table;
 
@@ -56,35 +56,24 @@ fn judge_both(
     }
 }
 
-// Prints a text.
-fn put(text: &[u8]) {
-    io::write_all(STDOUT_FILENO, text);
-}
-
-// Prints a number and a blank.
-fn put_number(n: u64) {
-    io::print_decimal(STDOUT_FILENO, n);
-    put(b" ");
-}
-
 // Prints an answer and a blank.
-fn put_answer(answer: Judged) {
+fn put_answer(rt: &impl Print, answer: Judged) -> io::Result<()> {
     match answer {
-        Judged::Accepts => put(b"accepts "),
-        Judged::Rejects => put(b"rejects "),
-        Judged::Stops(read) => {
-            put(b"stops ");
-            put_number(read as u64);
-        }
-        Judged::Refused(number) => {
-            put(b"refused ");
-            put_number(number as u64);
-        }
+        Judged::Accepts => print!(rt; "accepts "),
+        Judged::Rejects => print!(rt; "rejects "),
+        Judged::Stops(read) => print!(rt; "stops {read} "),
+        Judged::Refused(number) => print!(rt; "refused {number} "),
     }
 }
 
 // Translates a table and prints the translator's number and both answers to a word.
-fn run(table: &[u8], capacity: usize, lead: &[u8], looped: &[u8]) {
+fn run(
+    rt: &impl Print,
+    table: &[u8],
+    capacity: usize,
+    lead: &[u8],
+    looped: &[u8],
+) -> io::Result<()> {
     let mut targets = [0; CELLS];
     let mut priorities = [0; CELLS];
     let mut sources = [0; ROWS];
@@ -101,23 +90,24 @@ fn run(table: &[u8], capacity: usize, lead: &[u8], looped: &[u8]) {
     );
     let rabin = verdicts.rabin;
     let parity = verdicts.parity;
-    put_number(verdicts.number as u64);
-    put_answer(rabin);
-    put_answer(parity);
-    put(b"\n");
+    let number = verdicts.number;
+    print!(rt; "{number} ")?;
+    put_answer(rt, rabin)?;
+    put_answer(rt, parity)?;
+    println!(rt; "")
 }
 
-fn main() {
+fn main(rt: HostRuntime) -> io::Result<()> {
     let t = b"\x02\x02\x02\x00\x00\x01\x00\x01\x01\x02\x00\x00\x00\x01\x02\x00";
-    run(t, 4, b"", b"\x00");
-    run(t, 4, b"", b"\x01");
-    run(t, 4, b"", b"\x00\x01");
-    run(t, 4, b"", b"\x01\x01\x00");
-    run(t, 4, b"", b"\x01\x01\x00\x00");
-    run(t, 4, b"\x02", b"");
-    run(t, 4, b"\x02", b"\x00");
-    run(t, 3, b"", b"\x00");
+    run(&rt, t, 4, b"", b"\x00")?;
+    run(&rt, t, 4, b"", b"\x01")?;
+    run(&rt, t, 4, b"", b"\x00\x01")?;
+    run(&rt, t, 4, b"", b"\x01\x01\x00")?;
+    run(&rt, t, 4, b"", b"\x01\x01\x00\x00")?;
+    run(&rt, t, 4, b"\x02", b"")?;
+    run(&rt, t, 4, b"\x02", b"\x00")?;
+    run(&rt, t, 3, b"", b"\x00")?;
     let partial = b"\x01\x02\x00\x00\x00\xff\x00\x00\x00\x00";
-    run(partial, 1, b"", b"\x00\x01");
-    run(partial, 1, b"\x00\x00", b"\x01");
+    run(&rt, partial, 1, b"", b"\x00\x01")?;
+    run(&rt, partial, 1, b"\x00\x00", b"\x01")
 }

@@ -2,9 +2,9 @@
 // one: T with capacity 4 is translated, with capacity 3 it is refused 8, the arrays being lent full of nines, one row longer than the
 // capacity. What is printed is compared with `stdout`, which was written from the rules.
 use judge::Judged;
-use libc::STDOUT_FILENO;
 use marked::{count_card, judge_card, move_card, translate_card};
 use records::Record;
+use std::io;
 use translate::translate_table;
 
 mod marked;
@@ -21,67 +21,39 @@ const ROWS: usize = 5;
 
 const CELLS: usize = 10;
 
-// Prints a number and a blank.
-fn put(n: u64) {
-    io::print_decimal(STDOUT_FILENO, n);
-    put_text(b" ");
-}
-
-// The same for a byte.
-fn put_byte(n: u8) {
-    put(n as u64);
-}
-
-// The same for a record's number.
-fn put_record(n: u32) {
-    put(n as u64);
-}
-
-// Prints a text.
-fn put_text(text: &[u8]) {
-    io::write_all(STDOUT_FILENO, text);
-}
-
 // Prints an answer and a blank.
-fn put_answer(answer: Judged) {
+fn put_answer(rt: &impl Print, answer: Judged) -> io::Result<()> {
     match answer {
-        Judged::Accepts => put_text(b"accepts "),
-        Judged::Rejects => put_text(b"rejects "),
-        Judged::Stops(read) => {
-            put_text(b"stops ");
-            put(read as u64);
-        }
-        Judged::Refused(number) => {
-            put_text(b"refused ");
-            put_byte(number);
-        }
+        Judged::Accepts => print!(rt; "accepts "),
+        Judged::Rejects => print!(rt; "rejects "),
+        Judged::Stops(read) => print!(rt; "stops {read} "),
+        Judged::Refused(number) => print!(rt; "refused {number} "),
     }
 }
 
-// Ends a line.
-fn end_line() {
-    put_text(b"\n");
-}
-
 // Prints a cell: its target and its priority.
-fn put_cell(target: u16, priority: u8) {
-    put(target as u64);
-    put_byte(priority);
+fn put_cell(rt: &impl Print, target: u16, priority: u8) -> io::Result<()> {
+    print!(rt; "{target} {priority} ")
 }
 
 // One row: its source state and its record's number, then the target and the priority of both its letters.
-fn put_row(state: u8, record: u32, targets: &[u16], priorities: &[u8])
+fn put_row(
+    rt: &impl Print,
+    state: u8,
+    record: u32,
+    targets: &[u16],
+    priorities: &[u8],
+) -> io::Result<()>
     requires { (length targets.now ≡ 2) × (length priorities.now ≡ 2) }
 {
-    put_byte(state);
-    put_record(record);
-    put_cell(targets[0], priorities[0]);
-    put_cell(targets[1], priorities[1]);
-    end_line();
+    print!(rt; "{state} {record} ")?;
+    put_cell(rt, targets[0], priorities[0])?;
+    put_cell(rt, targets[1], priorities[1])?;
+    println!(rt; "")
 }
 
 // Translates T with a capacity: the number and the rows, then every row lent.
-fn run(capacity: usize) {
+fn run(rt: &impl Print, capacity: usize) -> io::Result<()> {
     let table = b"\x02\x02\x02\x00\x00\x01\x00\x01\x01\x02\x00\x00\x00\x01\x02\x00";
     let mut targets = [9; CELLS];
     let mut priorities = [9; CELLS];
@@ -95,38 +67,46 @@ fn run(capacity: usize) {
         &mut sources,
         &mut records,
     );
-    put_byte(result.number);
-    put(result.rows as u64);
-    end_line();
+    let number = result.number;
+    let rows = result.rows;
+    println!(rt; "{number} {rows} ")?;
     let mut i = 0;
     // the rows below i are printed
     while i < ROWS {
         let first = 2 * i;
         let end = first + 2;
         put_row(
+            rt,
             sources[i],
             records[i],
             &targets[first..end],
             &priorities[first..end],
-        );
+        )?;
         i += 1;
     }
+    Ok(())
 }
 
 // Runs the card of a word: what both tables answer.
-fn run_word(table: &[u8], lead: &[u8], looped: &[u8], expected: Judged)
+fn run_word(
+    rt: &impl Print,
+    table: &[u8],
+    lead: &[u8],
+    looped: &[u8],
+    expected: Judged,
+) -> io::Result<()>
     requires { IsCard (judged table.now lead.now looped.now (answer_of expected)) }
 {
     let verdicts = judge_card(table, lead, looped, expected);
     let rabin = verdicts.rabin;
     let parity = verdicts.parity;
-    put_answer(rabin);
-    put_answer(parity);
-    end_line();
+    put_answer(rt, rabin)?;
+    put_answer(rt, parity)?;
+    println!(rt; "")
 }
 
 // Runs the card of a translation: how many rows, then the first row's source state and record, and the first two cells.
-fn run_translation(table: &[u8])
+fn run_translation(rt: &impl Print, table: &[u8]) -> io::Result<()>
     requires { HasCard table.now }
 {
     let mut targets = [0; marked::CELLS];
@@ -140,80 +120,80 @@ fn run_translation(table: &[u8])
         &mut sources,
         &mut records,
     );
-    put(rows as u64);
-    put_byte(sources[0]);
-    put_record(records[0]);
-    put_cell(targets[0], priorities[0]);
-    put_cell(targets[1], priorities[1]);
-    end_line();
+    let state = sources[0];
+    let record = records[0];
+    print!(rt; "{rows} {state} {record} ")?;
+    put_cell(rt, targets[0], priorities[0])?;
+    put_cell(rt, targets[1], priorities[1])?;
+    println!(rt; "")
 }
 
 // Runs the card of a move: the number of the record.
-fn run_move(before: Record, pairs: u8, expected: Record)
+fn run_move(rt: &impl Print, before: Record, pairs: u8, expected: Record) -> io::Result<()>
     requires { IsCard (moves (pairs_in before.code) (pairs_of pairs) (pairs_in expected.code)) × (before.code ≡ packed (pairs_in before.code)) }
 {
     let moved = move_card(before, pairs, expected);
-    put_record(moved.number());
-    end_line();
+    let number = moved.number();
+    println!(rt; "{number} ")
 }
 
 // Runs the card of the pairs that count at a state: the number of their record.
-fn run_count(table: &[u8], state: u8, expected: Record)
+fn run_count(rt: &impl Print, table: &[u8], state: u8, expected: Record) -> io::Result<()>
     requires { IsCard (counted table.now state (pairs_in expected.code)) × (table_fault table.now ≡ 0) × (state < (table_of table.now).states) }
 {
     let rising = count_card(table, state, expected);
-    put_record(rising.number());
-    end_line();
+    let number = rising.number();
+    println!(rt; "{number} ")
 }
 
 // The cards of T.
-fn run_t() {
+fn run_t(rt: &impl Print) -> io::Result<()> {
     let t = b"\x02\x02\x02\x00\x00\x01\x00\x01\x01\x02\x00\x00\x00\x01\x02\x00";
-    run_word(t, b"", b"\x00", Judged::Accepts);
-    run_word(t, b"", b"\x01", Judged::Rejects);
-    run_word(t, b"", b"\x00\x01", Judged::Accepts);
-    run_word(t, b"", b"\x01\x01\x00", Judged::Accepts);
-    run_word(t, b"", b"\x01\x01\x00\x00", Judged::Rejects);
-    run_translation(t);
+    run_word(rt, t, b"", b"\x00", Judged::Accepts)?;
+    run_word(rt, t, b"", b"\x01", Judged::Rejects)?;
+    run_word(rt, t, b"", b"\x00\x01", Judged::Accepts)?;
+    run_word(rt, t, b"", b"\x01\x01\x00", Judged::Accepts)?;
+    run_word(rt, t, b"", b"\x01\x01\x00\x00", Judged::Rejects)?;
+    run_translation(rt, t)
 }
 
 // The cards of moves, a record by its code: 123 gives 312 and 231, and 321 gives 213.
-fn run_moves() {
-    run_move(Record { code: 209 }, 4, Record { code: 139 });
-    run_move(Record { code: 209 }, 6, Record { code: 90 });
-    run_move(Record { code: 83 }, 3, Record { code: 202 });
+fn run_moves(rt: &impl Print) -> io::Result<()> {
+    run_move(rt, Record { code: 209 }, 4, Record { code: 139 })?;
+    run_move(rt, Record { code: 209 }, 6, Record { code: 90 })?;
+    run_move(rt, Record { code: 83 }, 3, Record { code: 202 })
 }
 
 // The cards of self-loops: one pair with the required bit, with both bits, and no pair.
-fn run_self_loops() {
-    run_translation(b"\x01\x01\x01\x00\x00\x00\x01");
-    run_translation(b"\x01\x01\x01\x00\x00\x01\x01");
+fn run_self_loops(rt: &impl Print) -> io::Result<()> {
+    run_translation(rt, b"\x01\x01\x01\x00\x00\x00\x01")?;
+    run_translation(rt, b"\x01\x01\x01\x00\x00\x01\x01")?;
     let no_pairs = b"\x01\x01\x00\x00\x00\x00\x00";
-    run_translation(no_pairs);
-    run_word(no_pairs, b"", b"\x00", Judged::Rejects);
+    run_translation(rt, no_pairs)?;
+    run_word(rt, no_pairs, b"", b"\x00", Judged::Rejects)
 }
 
 // The cards of a table whose only marks are on a crossing.
-fn run_crossing() {
+fn run_crossing(rt: &impl Print) -> io::Result<()> {
     let crossing = b"\x02\x01\x01\x00\x01\x01\x01\x01\x00\x00";
-    run_count(crossing, 0, Record { code: 0 });
-    run_count(crossing, 1, Record { code: 0 });
-    run_translation(crossing);
+    run_count(rt, crossing, 0, Record { code: 0 })?;
+    run_count(rt, crossing, 1, Record { code: 0 })?;
+    run_translation(rt, crossing)
 }
 
 // The cards of stops: letter 0 loops, letter 1 is missing.
-fn run_stops() {
+fn run_stops(rt: &impl Print) -> io::Result<()> {
     let partial = b"\x01\x02\x00\x00\x00\xff\x00\x00\x00\x00";
-    run_word(partial, b"", b"\x00\x01", Judged::Stops(1));
-    run_word(partial, b"\x00\x00", b"\x01", Judged::Stops(2));
+    run_word(rt, partial, b"", b"\x00\x01", Judged::Stops(1))?;
+    run_word(rt, partial, b"\x00\x00", b"\x01", Judged::Stops(2))
 }
 
-fn main() {
-    run(4);
-    run(3);
-    run_t();
-    run_moves();
-    run_self_loops();
-    run_crossing();
-    run_stops();
+fn main(rt: HostRuntime) -> io::Result<()> {
+    run(&rt, 4)?;
+    run(&rt, 3)?;
+    run_t(&rt)?;
+    run_moves(&rt)?;
+    run_self_loops(&rt)?;
+    run_crossing(&rt)?;
+    run_stops(&rt)
 }

@@ -1,10 +1,11 @@
 // The listing program (RULES, "Listing"): it reads one Rabin table on standard input and prints the listing of its translation, or its
 // refusal. `list` has the whole listing at the front of a text, proved to fit; this program lends the arrays, reads and writes.
-ghost use Rattle.std.specs.Prelude.{◌≡◌, ◌≤◌, length, take};
+ghost use Rattle.std.specs.Prelude.{◌≡◌, ◌≤◌, length, take, IfOk};
 ghost use Rattle.rules.specs.Listings.{listing};
 
-use libc::{STDIN_FILENO, STDOUT_FILENO};
 use listing_text::list_table;
+use std::io;
+use std::io::{Read, Write};
 
 // The rows at most, and the cells of so many rows with 16 letters.
 const CAPACITY: usize = 1024;
@@ -33,11 +34,27 @@ fn list(table: &[u8], text: &mut [u8; TEXT]) -> usize
     )
 }
 
+// Reads until the buffer is full or the input ends, and says how many bytes there are.
+fn read_full<R: Read>(reader: &mut R, buffer: &mut [u8]) -> io::Result<usize>
+    ensures { IfOk result (λ n. n ≤ length buffer.new) }
+{
+    let mut done = 0;
+    // the bytes below `done` are read
+    while done < buffer.len() {
+        let read = reader.read(&mut buffer[done..])?;
+        if read == 0 {
+            return Ok(done);
+        }
+        done += read;
+    }
+    Ok(done)
+}
+
 // One byte is read beyond the longest table, so that a longer input is refused for its length.
-fn main() {
+fn main(rt: HostRuntime) -> io::Result<()> {
     let mut table = [0; 3077];
     let mut text = [0; TEXT];
-    let read = io::read_full(STDIN_FILENO, &mut table);
+    let read = read_full(&mut rt.reader(), &mut table)?;
     let length = list(&table[..read], &mut text);
-    io::write_all(STDOUT_FILENO, &text[..length]);
+    io::writer(&rt).write_all(&text[..length])
 }

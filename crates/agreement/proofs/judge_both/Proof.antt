@@ -6,19 +6,18 @@ use Rattle.judge.proofs.Judgements.{answers_agree}
 use Rattle.agreement.proofs.judge_both.Statement.{statement}
 use Rattle.agreement.proofs.judge_both.Tie as tie
 
-cast-letters : tie.Need-overflow-cast-letters
-cast-letters c = omega (arith, c.letters-of.type_inv)
+cast-letters : tie.Need-overflow_cast-letters
+cast-letters c = omega (arith, c.letters_of-letters.type_inv)
 
 returns : tie.Need-returns
 returns c =
-    let a = c.before.before.before.before.before.before.before.before.before.before.before.before.before.before.before.before.before.before.before.before.before.before.before.before.before.args in
-    let rabin = c.before.before.before.before.judge-rabin in
-    let translation = c.before.before.before.before.before.before.before.before.before.before.before.before.before.translate-table in
-    let parity = rw c.before.before.before.letters-of.ensures at c.judge-parity.ensures.0 in
+    let a = c.args in
+    let rabin = c.judge_rabin-rabin in
+    let translation = c.translate_table-translation in
+    let parity = rw c.letters_of-letters.ensures at c.judge_parity-parity.ensures.0 in
     (translation.ensures.0, (rabin.ensures.0, (parity, λ z. answers_agree _ _ _ _ _ a.lead.now a.looped.now _ _ (translation.ensures.1.0 z) rabin.ensures.0 parity)))
 
 pub judge_both_spec : {M : Type 1} → statement M
 judge_both_spec =
     tie.close
-    (tie.spec (λ c κs. search rules) (λ c κs. search rules) (λ c κs. search rules) cast-letters (λ c κs. search rules) (λ c. search rules)
-    (λ c. search rules) (λ c. search rules) (λ c. search rules) returns)
+    (tie.spec (λ c κs. search rules) (λ c κs. search rules) (λ c κs. search rules) cast-letters (λ c κs. search rules) (λ c. search rules) (λ c. search rules) (λ c. search rules) (λ c. search rules) returns)

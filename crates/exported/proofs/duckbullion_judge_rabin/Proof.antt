@@ -4,7 +4,7 @@ use Rattle.exported.proofs.duckbullion_judge_rabin.Statement.{statement}
 use Rattle.exported.proofs.duckbullion_judge_rabin.Tie as tie
 
 returns : tie.Need-returns
-returns c = rw c.answer-of.ensures c.before.judge-rabin.ensures
+returns c = rw c.answer_of.ensures c.judge_rabin.ensures
 
 pub duckbullion_judge_rabin_spec : {M : Type 1} → statement M
 duckbullion_judge_rabin_spec = tie.close (tie.spec (λ c κs. search rules) (λ c κs. search rules) returns)

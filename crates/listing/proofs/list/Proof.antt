@@ -6,7 +6,7 @@ use Rattle.listing.proofs.list.Statement.{statement}
 use Rattle.listing.proofs.list.Tie as tie
 
 returns : tie.Need-returns
-returns c = listing_whole c.before.before.before.before.list-table.ensures (omega arith)
+returns c = listing_whole c.list_table.ensures (omega arith)
 
 pub list_spec : {M : Type 1} → statement M
 list_spec =

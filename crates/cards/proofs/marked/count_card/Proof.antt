@@ -10,27 +10,26 @@ use Rattle.cards.proofs.marked.count_card.Statement.{statement}
 use Rattle.cards.proofs.marked.count_card.Tie as tie
 
 -- where the cells are laid out, and the start
-abbrev laid : tie.After-survey-cells → tie.After-lay-table
+abbrev laid : tie.After-survey_cells-fits → tie.After-lay_table-laid
 laid c = c.before.before.before.before.before.before.before.before
 
-abbrev start : tie.After-lay-table → tie.Start
+abbrev start : tie.After-lay_table-laid → tie.Start
 start c = c.before.before.before.before
 
-array-read-rising : tie.Need-array-read-rising
+array-read-rising : tie.Need-bounds-sets-q
 array-read-rising c =
-    let s = start (laid c.before.before) in omega (arith, (table_facts s.args.table.now s.pre.1).sizes.most_states)
+    let s = start (laid c.before.before) in omega (arith, (table_facts s.args.table.now s.requires.1).sizes.most_states)
 
 returns : tie.Need-returns
 returns c =
     let survey = c.before.before.before in
     let lay = laid survey in
     let s = start lay in
-    let k = survey.survey-cells.auto.1.1.1.1 in
-    let rising = counted_rising s.pre.1 (omega arith) (omega arith) (omega arith) (omega arith) lay.lay-table.kept.1.0 lay.lay-table.kept.1.1.0 k.0 k.1.0 lay.lay-table.ensures survey.survey-cells.ensures s.args.state s.pre.2 in
-    c.rising.ensures ∙ ap packed (rising ∙ card_holds _ s.pre.0)
+    let k = survey.survey_cells-fits.auto in
+    let rising = counted_rising s.requires.1 (omega arith) (omega arith) (omega arith) (omega arith) lay.lay_table-laid.auto.targets lay.lay_table-laid.auto.marks k.homes k.counted lay.lay_table-laid.ensures survey.survey_cells-fits.ensures s.args.state s.requires.2 in
+    c.rising.ensures ∙ ap packed (rising ∙ card_holds _ s.requires.0)
 
 pub count_card_spec : {M : Type 1} → statement M
 count_card_spec =
     tie.close
-    (tie.spec (λ c. search rules) (λ c. search rules) (λ c κs. search rules) (λ c. search rules) (λ c. search rules) (λ c. search rules)
-    (λ c. search rules) (λ c. search rules) (λ c κs. search rules) array-read-rising (λ c κs. search rules) returns)
+    (tie.spec (λ c. search rules) (λ c. search rules) (λ c κs. search rules) (λ c. search rules) (λ c. search rules) (λ c. search rules) (λ c. search rules) (λ c. search rules) (λ c κs. search rules) array-read-rising (λ c κs. search rules) returns)

@@ -9,7 +9,7 @@ use Rattle.cards.proofs.marked.move_card.Tie as tie
 
 returns : tie.Need-returns
 returns c =
-    let s = c.before in
+    let s = c in
     ap pairs_in c.moved.ensures ∙ moved_pairs s.args.before.code s.args.pairs s.requires.1 ∙ card_holds _ s.requires.0
 
 pub move_card_spec : {M : Type 1} → statement M

@@ -8,8 +8,8 @@ use Rattle.cards.proofs.marked.translate_card.Tie as tie
 
 returns : tie.Need-returns
 returns c =
-    let s = c.before.before.before.before.before.before in
-    let says = c.translate-table.ensures.0 in
+    let s = c in
+    let says = c.translate_table-translation.ensures.0 in
     let claim = card_holds _ s.requires.card in
     record { arrays = s.requires.arrays; card = s.requires.card; begins = card_arrays says (not_refused says claim.is_translated (omega arith) (omega arith) (omega arith) (omega arith)) claim }
 
