@@ -3,8 +3,8 @@
  *
  * Every call takes any bytes, arrays, sizes and places, however malformed, and says what it made of them: a refusal is
  * a number. docs/RULES.md says in full what tables, records, rows, words, judges, refusals and listings are.
- * `rt staticlib exported` makes the archive target/staticlib/libexported.a, for x86-64 Linux; it needs no library but
- * C's.
+ * `rt lib` in crates/exported makes the archive crates/exported/out/libexported.a, for x86-64 Linux; it needs no library
+ * but C's.
  *
  * What a caller must guarantee, since no call can check it:
  *   - A pointer with length L points to L elements of its type, aligned for it, that may be read, and written where the

@@ -1,4 +1,4 @@
-//! Links the static library `exported`, which the project's root builds beforehand.
+//! Links the static library `exported`, which `rt lib` in crates/exported builds beforehand.
 
 use std::env;
 use std::path::PathBuf;
@@ -13,15 +13,16 @@ fn main() {
                 env::var_os("CARGO_MANIFEST_DIR").expect("cargo names the crate's directory");
             PathBuf::from(here)
                 .join("..")
-                .join("target")
-                .join("staticlib")
+                .join("crates")
+                .join("exported")
+                .join("out")
         }
     };
     let archive = directory.join("libexported.a");
     println!("cargo:rerun-if-changed={}", archive.display());
     if !archive.is_file() {
         eprintln!(
-            "{} is not there: run `rt staticlib exported` at the project's root first",
+            "{} is not there: run `rt lib` in crates/exported first",
             archive.display()
         );
         std::process::exit(1);

@@ -1,7 +1,8 @@
 /*
  * Translates the table T of docs/RULES.md, prints the parity table, and judges the loop 0 1 on both. At the repository's root:
- *     rt staticlib exported
- *     cc -std=c99 -Wall -Wextra -pedantic -O2 -I include examples/c/translate.c -L target/staticlib -lexported -o target/translate
+ *     (cd crates/exported && rt lib)
+ *     mkdir -p target
+ *     cc -std=c99 -Wall -Wextra -pedantic -O2 -I include examples/c/translate.c -L crates/exported/out -lexported -o target/translate
  */
 #include <stdio.h>
 

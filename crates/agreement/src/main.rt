@@ -2,6 +2,8 @@
 // its contract says, from the contracts of the calls alone, that where the table is translated both judges give the same
 // answer. `main` runs it on the cards about words (RULES, "Cards"); what is printed is compared with `stdout`, which was written from
 // the rules.
+#![tactic(auto)]
+
 ghost use Rattle.std.specs.Prelude.{◌≡◌};
 ghost use Rattle.rules.specs.Says.{RabinSays, ParitySays, TranslateSays, row_arrays};
 ghost use Rattle.rules.specs.Tables.{table_of};

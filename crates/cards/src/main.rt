@@ -1,6 +1,8 @@
 // Runs the cards (RULES, "Cards"). Of those with a star, `marked` proves that each gives what the rules' list says. Of the others it runs
 // one: T with capacity 4 is translated, with capacity 3 it is refused 8, the arrays being lent full of nines, one row longer than the
 // capacity. What is printed is compared with `stdout`, which was written from the rules.
+#![tactic(auto)]
+
 use judge::Judged;
 use marked::{count_card, judge_card, move_card, translate_card};
 use records::Record;

@@ -3,6 +3,8 @@
 // q · m + a, and a target that is no state means that there is no transition. `find_components`, `find_components_from`, `find_reached` and
 // `path_to` keep the promises `ComponentsFound`, `ComponentsReached`, `ReachFound` and `PathFound` of this crate, for all sizes and arrays; what
 // does not fit is answered as such.
+#![tactic(auto)]
+
 mod cells;
 mod paths;
 mod reach;

@@ -1,5 +1,7 @@
 // The exploration of rows that are numbers. It knows no table: a row is a key, made of a state and a memory, and a cell is a code.
 // It rests on `records`, which moves the memories. `find_rows` numbers the rows that the first one reaches by discovery: `ExploreSays`.
+#![tactic(auto)]
+
 mod check;
 pub mod codes;
 mod effects;

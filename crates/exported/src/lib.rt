@@ -1,6 +1,8 @@
 // The public calls on tables and words for C and Rust: a slice goes out as a pointer and a length, an answer as two numbers.
 // It rests on `components`, `tables`, `survey`, `forecast`, `translate`, `judge`, `judge_rabin` and `listing_text`, passes each call on as it is, and only turns an answer
 // into numbers and a part into its place. Each call keeps the promise of the one that it passes on to, for all bytes, arrays, sizes and places.
+#![tactic(auto)]
+
 ghost use Rattle.std.specs.Prelude.{◌≡◌};
 ghost use Rattle.rules.specs.Says.{CheckSays, ComponentsSay, ComponentsMean, TranslateSays, TranslationAgrees, TranslationMeans, ForecastSays, ForecastMeans, RabinSays, RabinMeans, ParitySays, ParityMeans, row_arrays};
 ghost use Rattle.rules.specs.Listings.{ListingSays};

@@ -1,6 +1,8 @@
 // The forecast of a Rabin table: how many rows its translation can have, and how many pairs one record, from the table alone.
 // It rests on `survey`, which lays a table out and says which states the start reaches and what counts there. `forecast_table` keeps the
 // promises `ForecastSays` and `ForecastMeans` of the rules, for all bytes.
+#![tactic(auto)]
+
 ghost use Rattle.std.specs.Prelude.{◌≡◌, ℕ, ◌<◌, ◌≤◌, max, ltb, length, get_or};
 ghost use Rattle.std.specs.Int.Count.{ones};
 ghost use Rattle.rules.specs.Basics.{when};

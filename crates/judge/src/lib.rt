@@ -1,6 +1,8 @@
 // Looped words: their refusals, the rest of a piece, and the judge of parity tables.
 // It rests on `rules` alone. `judge_parity` and `rest_of` keep the promises `ParitySays` and `RestSays` of the rules, for all arrays, sizes and
 // places; `words` has the refusals of a word, for any judge.
+#![tactic(auto)]
+
 use crate::sizes::{MIDDLE_ROWS, SMALL_ROWS};
 
 mod parity;

@@ -1,6 +1,8 @@
 // Judges looped words on Rabin tables.
 // It rests on `tables`, which checks a table, and on `judge`, which has the refusals of a word, the answers, and the laws of a run that is read pass
 // by pass. `judge_rabin` keeps the promises `RabinSays` and `RabinMeans` of the rules, for all bytes and words.
+#![tactic(auto)]
+
 use judge::{Judged, words};
 use rules::limit::MAX_STATES;
 use tables::{check_table, letters_of};

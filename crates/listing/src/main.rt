@@ -1,5 +1,7 @@
 // The listing program (RULES, "Listing"): it reads one Rabin table on standard input and prints the listing of its translation, or its
 // refusal. `list` has the whole listing at the front of a text, proved to fit; this program lends the arrays, reads and writes.
+#![tactic(auto)]
+
 ghost use Rattle.std.specs.Prelude.{◌≡◌, ◌≤◌, length, take, IfOk};
 ghost use Rattle.rules.specs.Listings.{listing};
 

@@ -1,6 +1,8 @@
 // Lists the translation of a Rabin table as text.
 // It rests on `translate`, which fills the four lent arrays, and writes what they hold line by line. `list_table` keeps the promise
 // `ListingSays` of the rules for every byte string and every array.
+#![tactic(auto)]
+
 use lines::{put_refusal, put_table};
 use translate::translate_table;
 

@@ -1,6 +1,8 @@
 // Index appearance records by value: an ordering of pairs as one code, three bits for each place, 0 in a place that is not used.
 // It rests on `rules`. Every method takes any record and any byte and states its whole result, by the definitions of the rules
 // over the record's places.
+#![tactic(auto)]
+
 ghost use Rattle.std.specs.Prelude.{◌≡◌, not, ◌∷◌, suc, ◌≤◌, ◌<◌, ◌*◌, ◌+◌, ◌/◌, ◌^◌, length, get_or};
 ghost use Rattle.rules.specs.Basics.{pick, keep, tabulate};
 ghost use Rattle.rules.specs.Records.{as_they_stood, moved, priority, decimal};

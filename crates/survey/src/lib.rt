@@ -1,6 +1,8 @@
 // Lays a Rabin table out in arrays, and says of each state its component and the pairs that count there: a translation looks at no bytes after that.
 // It rests on `tables`, which checks the bytes, and on `components`. `find_components` keeps the promises `ComponentsSay` and `ComponentsMean` of the
 // rules, `lay_table`, `survey_cells` and `survey_reached` keep `LaySays`, `SurveySays` and `ReachedSays` of this crate, for all bytes, sizes and arrays.
+#![tactic(auto)]
+
 use rules::limit::{HEADER_SIZE, MAX_LETTERS, MAX_STATES};
 use rules::refusal;
 use tables::check_table;

@@ -1,6 +1,8 @@
 // Checks a Rabin table: the bytes, before anything is made of them.
 // It rests on `rules` alone. `check_table` keeps the promise `CheckSays` of the rules, for all bytes; `letters_of` reads the number of letters, and
 // `mask_of` joins the marks of a transition.
+#![tactic(auto)]
+
 use rules::limit::HEADER_SIZE;
 use rules::refusal;
 

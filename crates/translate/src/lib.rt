@@ -1,6 +1,8 @@
 // Translates a Rabin table into a parity table, by index appearance records.
 // It rests on `survey`, which lays a table out and says what counts where, and on `explore`, which finds the rows. `translate_table` keeps
 // the promise `TranslateSays` of the rules, with it demand 3 of the arrays as they are left, `TranslationAgrees`, and what the rows mean, `TranslationMeans`.
+#![tactic(auto)]
+
 use crate::encode::{FEW_BYTES, FEW_CELLS, MAX_CELLS};
 use explore::{Explored, Rule, Task, are_short, find_rows};
 use rules::refusal;

@@ -6,7 +6,6 @@ use mathlib.Core.Bool.{true, false≢true}
 use Prim.Native.Nat.{ℕ, ◌-◌, ◌<◌, ◌≤◌}
 use native.Mathlib.Omega.{arith}
 use lib.ListN.{length}
-use borrow.Author.Tests.{not-true, not-false}
 use Rattle.rules.specs.Judges.{parity_system}
 use Rattle.rules.proofs.Filling.{filled_over}
 use Rattle.rules.proofs.Meanings.{components_over}

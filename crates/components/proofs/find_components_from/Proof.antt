@@ -8,7 +8,7 @@ use native.Mathlib.Omega.{arith}
 use lib.Dec.{ltb}
 use lib.ListN.{length}
 use lib.Seq.{get_or-take}
-use borrow.Author.Tests.{ltb-true, not-true, not-false}
+use borrow.Author.Tests.{ltb-true}
 use Rattle.rules.specs.Judges.{parity_system}
 use Rattle.rules.proofs.Bools.{and_parts}
 use Rattle.rules.proofs.Filling.{filled_over}

@@ -8,7 +8,6 @@ use Prim.Native.Nat.{ℕ, ◌-◌, ◌<◌, ◌≤◌}
 use native.Mathlib.Nat.{le_antisymm}
 use native.Mathlib.Omega.{arith}
 use lib.ListN.{length, set}
-use borrow.Author.Tests.{not-true, not-false}
 use Rattle.rules.specs.Judges.{parity_system}
 use Rattle.rules.proofs.Bools.{clash}
 use Rattle.components.specs.Reaches.{ReachRoom, Untouched}

@@ -4,7 +4,6 @@ use mathlib.Core.Path.{refl, sym, ◌∙◌}
 use mathlib.Core.Bool.{true}
 use Prim.Native.Nat.{◌*◌, ◌≤◌}
 use lib.ListN.{length}
-use borrow.Author.Tests.{not-true, not-false}
 use Rattle.rules.specs.Limits.{max_states, max_letters}
 use Rattle.survey.proofs.Surveying.{counted_at_homes}
 use Rattle.survey.proofs.Promises.{survey_room}
