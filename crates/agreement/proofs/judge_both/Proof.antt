@@ -6,8 +6,8 @@ use Rattle.judge.proofs.Judgements.{answers_agree}
 use Rattle.agreement.proofs.judge_both.Statement.{statement}
 use Rattle.agreement.proofs.judge_both.Tie as tie
 
-cast-letters : tie.Need-overflow_cast-letters
-cast-letters c = omega (arith, c.letters_of-letters.type_inv)
+overflow_cast-letters : tie.Need-overflow_cast-letters
+overflow_cast-letters c = omega (arith, c.letters_of-letters.type_inv)
 
 returns : tie.Need-returns
 returns c =
@@ -20,4 +20,5 @@ returns c =
 pub judge_both_spec : {M : Type 1} → statement M
 judge_both_spec =
     tie.close
-    (tie.spec (λ c κs. search rules) (λ c κs. search rules) (λ c κs. search rules) cast-letters (λ c κs. search rules) (λ c. search rules) (λ c. search rules) (λ c. search rules) (λ c. search rules) returns)
+    (tie.spec (λ c κs. search rules) (λ c κs. search rules) (λ c κs. search rules) overflow_cast-letters (λ c κs. search rules) (λ c. search rules)
+    (λ c. search rules) (λ c. search rules) (λ c. search rules) returns)

@@ -23,19 +23,19 @@ unfit n m t h =
 small : (n m : ℕ) → leb done_number n || leb done_number m ≡ false → (n < done_number) × (m < done_number)
 small n m h = let r = or_none (leb done_number n) (leb done_number m) h in (leb-false done_number n r.0, leb-false done_number m r.1)
 
-returns : tie.Need-returns-then-states-letters
-returns c = let a = c.args in unfit a.states a.letters a.cells c.if-states-letters.true
+returns-then-states-letters : tie.Need-returns-then-states-letters
+returns-then-states-letters c = let a = c.args in unfit a.states a.letters a.cells c.if-states-letters.true
 
-mul-result : tie.Need-overflow_mul-result
-mul-result c =
+overflow_mul-result : tie.Need-overflow_mul-result
+overflow_mul-result c =
     let l = small c.args.states c.args.letters c.if-states-letters.false in
     omega (arith, mul-le-mul (le_of_lt l.0) (le_of_lt l.1))
 
-returns_2 : tie.Need-returns
-returns_2 c =
+returns : tie.Need-returns
+returns c =
     let l = small c.args.states c.args.letters c.if-states-letters.false in
     let a = c.args in
     rw (lt-ltb a.states done_number l.0, lt-ltb a.letters done_number l.1)
 
 pub cells_fit_spec : {M : Type 1} → statement M
-cells_fit_spec = tie.close (tie.spec (λ c. search rules) (λ c. search rules) returns mul-result returns_2)
+cells_fit_spec = tie.close (tie.spec (λ c. search rules) (λ c. search rules) returns-then-states-letters overflow_mul-result returns)

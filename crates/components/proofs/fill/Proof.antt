@@ -13,8 +13,8 @@ invariant-loop n value array₀ q₀ array q = (q ≤ n) × FilledWith q value a
 abbrev decreases-loop : tie.decreases-loop-q
 decreases-loop n value array₀ q₀ array q = n - q
 
-loop-again : tie.Need-loop-q-preserved invariant-loop decreases-loop
-loop-again c =
+loop-q-preserved : tie.Need-loop-q-preserved invariant-loop decreases-loop
+loop-q-preserved c =
     let i = c.loop-q in
     (omega arith, filled_more i.q _ _ _ (omega (arith, i.invariant.1.size)) i.invariant.1)
 
@@ -24,4 +24,5 @@ returns c = rw (le_antisymm c.loop-q.invariant.0 c.loop-q-test.false) at c.loop-
 pub fill_spec : {M : Type 1} → statement M
 fill_spec =
     tie.close
-    (tie.spec invariant-loop decreases-loop (λ c. (omega arith, filled_none _ _)) (λ c. omega arith) (λ c. omega (arith, c.loop-q.invariant.1.size)) (λ c. omega arith) (λ c. omega arith) loop-again (λ c. c.loop-q.invariant.1.size) returns)
+    (tie.spec invariant-loop decreases-loop (λ c. (omega arith, filled_none _ _)) (λ c. omega arith) (λ c. omega (arith, c.loop-q.invariant.1.size))
+    (λ c. omega arith) (λ c. omega arith) loop-q-preserved (λ c. c.loop-q.invariant.1.size) returns)

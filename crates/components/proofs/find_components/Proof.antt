@@ -36,32 +36,32 @@ module _ (c : tie.Else-not-components_fit invariant-loop decreases-loop) where
   room : let a = start.args in SearchRoom (parity_system a.states a.letters a.targets.now) a.targets.now a.work.now × (a.states ≤ length a.out.now)
   room = let a = start.args in components_room a.states a.letters a.targets.now a.work.now a.out.now fit
 
-returns : tie.Need-returns-then-not-components_fit invariant-loop decreases-loop
-returns c = record { answer = sym (c.if-not-components_fit.true) ∙ c.components_fit.ensures; array = refl; meaning = λ e. absurd (false≢true e) }
+returns-then-not-components_fit : tie.Need-returns-then-not-components_fit invariant-loop decreases-loop
+returns-then-not-components_fit c = record { answer = sym (c.if-not-components_fit.true) ∙ c.components_fit.ensures; array = refl; meaning = λ e. absurd (false≢true e) }
 
-loop-holds : tie.Need-loop-q-init invariant-loop decreases-loop
-loop-holds c =
+loop-q-init : tie.Need-loop-q-init invariant-loop decreases-loop
+loop-q-init c =
     let x = c.fill.ensures in
     (omega arith, underway_none _ _ _ _ _ _ _ (searched_none _ _ _ x.done) (room_kept _ _ _ _ (room c.before.before.before.before).0 x.size), λ i l. absurd (omega arith))
 
 search-requires : tie.Need-search-requires invariant-loop decreases-loop
 search-requires c κs = let t = c.loop-q.invariant.1 in (t.room, rw t.out_size (room c.before.before.before.before.before.before.before.before).1, t.now, c.loop-q-test.true)
 
-add-q : tie.Need-overflow_add-q invariant-loop decreases-loop
-add-q c = omega (arith, c.loop-q-test.true, (room c.before.before.before.before.before.before.before.before.before.before.before.before.before).0.small)
+overflow_add-q : tie.Need-overflow_add-q invariant-loop decreases-loop
+overflow_add-q c = omega (arith, c.loop-q-test.true, (room c.before.before.before.before.before.before.before.before.before.before.before.before.before).0.small)
 
-loop-less : tie.Need-loop-q-smaller invariant-loop decreases-loop
-loop-less c = omega (arith, c.loop-q-test.true)
+loop-q-smaller : tie.Need-loop-q-smaller invariant-loop decreases-loop
+loop-q-smaller c = omega (arith, c.loop-q-test.true)
 
-loop-again : tie.Need-loop-q-preserved invariant-loop decreases-loop
-loop-again c =
+loop-q-preserved : tie.Need-loop-q-preserved invariant-loop decreases-loop
+loop-q-preserved c =
     let t = c.search in
     let i = c.loop-q in
     let u = c.loop-q-test.true in
     (omega arith, underway_more _ _ _ _ _ _ _ _ _ _ _ _ _ _ i.invariant.1 t.auto.work t.auto.outs t.ensures.after t.ensures.rest t.ensures.met, λ j l. same_or j i.q (λ e. rw e t.ensures.root_met) (λ d. t.ensures.met j (omega arith) (i.invariant.2 j (omega arith))))
 
-returns_2 : tie.Need-returns invariant-loop decreases-loop
-returns_2 c =
+returns : tie.Need-returns invariant-loop decreases-loop
+returns c =
     let t = c.loop-q.invariant in
     let e = c.before.before.before.before.before.before in
     let a = (start e).args in
@@ -75,4 +75,6 @@ returns_2 c =
 pub find_components_spec : {M : Type 1} → statement M
 find_components_spec =
     tie.close
-    (tie.spec invariant-loop decreases-loop (λ c κs. search rules) returns (λ c. omega (arith, (room c).0.small)) (λ c κs. (room c.before).0.work_room) loop-holds search-requires add-q loop-less loop-again (λ c. c.loop-q.invariant.1.work_size ∙ c.fill.ensures.size) (λ c. c.loop-q.invariant.1.out_size) returns_2)
+    (tie.spec invariant-loop decreases-loop (λ c κs. search rules) returns-then-not-components_fit (λ c. omega (arith, (room c).0.small))
+    (λ c κs. (room c.before).0.work_room) loop-q-init search-requires overflow_add-q loop-q-smaller loop-q-preserved
+    (λ c. c.loop-q.invariant.1.work_size ∙ c.fill.ensures.size) (λ c. c.loop-q.invariant.1.out_size) returns)

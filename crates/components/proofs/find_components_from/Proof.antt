@@ -34,8 +34,8 @@ module _ (c : tie.Else-not-fits-from) where
       let r = components_room a.states a.letters a.targets.now a.work.now a.out.now p.0 in
       (r.0, r.1, ltb-true a.from a.states p.1)
 
-returns : tie.Need-returns-then-not-fits-from
-returns c = record { answer = sym (c.if-not-fits-from.true) ∙ ap (λ (b : Bool). b && ltb c.args.from c.args.states) c.components_fit-fits.ensures; array = refl }
+returns-then-not-fits-from : tie.Need-returns-then-not-fits-from
+returns-then-not-fits-from c = record { answer = sym (c.if-not-fits-from.true) ∙ ap (λ (b : Bool). b && ltb c.args.from c.args.states) c.components_fit-fits.ensures; array = refl }
 
 -- both arrays are written
 module _ (c : tie.After-fill-2) where
@@ -52,16 +52,16 @@ search-requires c κs =
     let r = room (else w) in
     (room_kept _ _ _ _ r.0 f.size, rw w.fill-2.ensures.size r.1, searched_none _ _ _ f.done, r.2)
 
-same_length : tie.Need-shape_of-work
-same_length c =
+shape_of-work : tie.Need-shape_of-work
+shape_of-work c =
     let w : tie.After-fill-2 = c.before.before.before.before.before.before.before.before.before in
     c.search.auto.work ∙ (first w).fill.ensures.size
 
-same_length_2 : tie.Need-shape_of-out
-same_length_2 c = c.search.auto.outs ∙ c.fill-2.ensures.size
+shape_of-out : tie.Need-shape_of-out
+shape_of-out c = c.search.auto.outs ∙ c.fill-2.ensures.size
 
-returns_2 : tie.Need-returns
-returns_2 c =
+returns : tie.Need-returns
+returns c =
     let x = c.search.ensures in
     let w : tie.After-fill-2 = c.before.before.before.before.before.before.before.before.before in
     let f = (first w).fill.ensures in
@@ -69,10 +69,12 @@ returns_2 c =
     let r = room (else w) in
     record {
       answer = sym (fit (else w));
-      array = filled_over _ _ _ _ r.1 (record { size = same_length_2 c; done = λ i l. found_from_lem _ _ _ _ _ _ x r.2 (λ q h. get_or-take _ _ q 0 h ∙ f.done q (omega arith)) i (o.done i l) l; rest = λ i l. x.rest i (λ b. absurd (omega arith)) ∙ o.rest i l });
+      array = filled_over _ _ _ _ r.1 (record { size = shape_of-out c; done = λ i l. found_from_lem _ _ _ _ _ _ x r.2 (λ q h. get_or-take _ _ q 0 h ∙ f.done q (omega arith)) i (o.done i l) l; rest = λ i l. x.rest i (λ b. absurd (omega arith)) ∙ o.rest i l });
     }
 
 pub find_components_from_spec : {M : Type 1} → statement M
 find_components_from_spec =
     tie.close
-    (tie.spec (λ c κs. search rules) returns (λ c. omega (arith, (room c).0.small)) (λ c κs. (room c.before).0.work_room) (λ c. omega (arith, (room c.before.before.before.before).0.small)) (λ c κs. (room c.before.before.before.before.before).1) search-requires same_length same_length_2 returns_2)
+    (tie.spec (λ c κs. search rules) returns-then-not-fits-from (λ c. omega (arith, (room c).0.small)) (λ c κs. (room c.before).0.work_room)
+    (λ c. omega (arith, (room c.before.before.before.before).0.small)) (λ c κs. (room c.before.before.before.before.before).1) search-requires
+    shape_of-work shape_of-out returns)

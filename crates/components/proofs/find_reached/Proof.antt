@@ -49,25 +49,25 @@ module _ (c : tie.After-fill invariant-loop decreases-loop) where
       Untouched a.states 1 a.numbers.now (set cleared a.from 1) a.queue.now (set a.queue.now 0 a.from) a.parents.now a.parents.now a.by.now a.by.now
   begun = let a = (start else).args in untouched_start cleared a.queue.now a.parents.now a.by.now a.from c.fill.ensures (room else).1
 
-returns : tie.Need-returns-then-not-fits invariant-loop decreases-loop
-returns c =
+returns-then-not-fits : tie.Need-returns-then-not-fits invariant-loop decreases-loop
+returns-then-not-fits c =
     let t = sym c.reach_fits-fits.ensures ∙ c.if-not-fits.true in
     record { unfit = λ e. (refl, refl, refl, refl, refl); found = λ e. clash e t; untouched = untouched_none _ _ _ _ _ _ }
 
-mul-numbers : tie.Need-offset_bounds-numbers-from invariant-loop decreases-loop
-mul-numbers c = let r = room c.before.before.before.before in omega (arith, r.1, r.0.small)
+offset_bounds-numbers-from : tie.Need-offset_bounds-numbers-from invariant-loop decreases-loop
+offset_bounds-numbers-from c = let r = room c.before.before.before.before in omega (arith, r.1, r.0.small)
 
-slice-write-numbers : tie.Need-bounds-numbers-from invariant-loop decreases-loop
-slice-write-numbers c = let r = room c.before.before.before.before in omega (arith, r.1, r.0.number_room, c.fill.ensures.size)
+bounds-numbers-from : tie.Need-bounds-numbers-from invariant-loop decreases-loop
+bounds-numbers-from c = let r = room c.before.before.before.before in omega (arith, r.1, r.0.number_room, c.fill.ensures.size)
 
-cast-queue : tie.Need-overflow_cast-queue invariant-loop decreases-loop
-cast-queue c = let r = room c.before.before.before.before in omega (arith, r.1, r.0.small)
+overflow_cast-queue : tie.Need-overflow_cast-queue invariant-loop decreases-loop
+overflow_cast-queue c = let r = room c.before.before.before.before in omega (arith, r.1, r.0.small)
 
-slice-write-queue : tie.Need-bounds-queue-0 invariant-loop decreases-loop
-slice-write-queue c = let r = room c.before.before.before.before in omega (arith, r.1, r.0.queue_room)
+bounds-queue-0 : tie.Need-bounds-queue-0 invariant-loop decreases-loop
+bounds-queue-0 c = let r = room c.before.before.before.before in omega (arith, r.1, r.0.queue_room)
 
-loop-holds : tie.Need-loop-k-init invariant-loop decreases-loop
-loop-holds c =
+loop-k-init : tie.Need-loop-k-init invariant-loop decreases-loop
+loop-k-init c =
     let u : tie.After-fill invariant-loop decreases-loop = c.before.before in
     let x = u.fill.ensures in
     let r = room (else u) in
@@ -77,17 +77,17 @@ loop-holds c =
           (reach_room_kept _ _ _ _ _ _ _ _ _ _ _ r.0 (begun u)),
     )
 
-read-state-requires : tie.Need-read_state-met-requires invariant-loop decreases-loop
-read-state-requires c κs = let t = c.loop-k.invariant in (t.1.room, reached_own _ _ _ _ _ _ _ _ _ t.1.reached, c.loop-k-test.true)
+read_state-met-requires : tie.Need-read_state-met-requires invariant-loop decreases-loop
+read_state-met-requires c κs = let t = c.loop-k.invariant in (t.1.room, reached_own _ _ _ _ _ _ _ _ _ t.1.reached, c.loop-k-test.true)
 
-add-k : tie.Need-overflow_add-k invariant-loop decreases-loop
-add-k c = let t = c.loop-k.invariant.1 in omega (arith, c.loop-k-test.true, t.reached.places.few, t.room.small)
+overflow_add-k : tie.Need-overflow_add-k invariant-loop decreases-loop
+overflow_add-k c = let t = c.loop-k.invariant.1 in omega (arith, c.loop-k-test.true, t.reached.places.few, t.room.small)
 
-loop-less : tie.Need-loop-k-smaller invariant-loop decreases-loop
-loop-less c = let t = c.loop-k.invariant.1 in omega (arith, c.loop-k-test.true, t.reached.places.few)
+loop-k-smaller : tie.Need-loop-k-smaller invariant-loop decreases-loop
+loop-k-smaller c = let t = c.loop-k.invariant.1 in omega (arith, c.loop-k-test.true, t.reached.places.few)
 
-loop-again : tie.Need-loop-k-preserved invariant-loop decreases-loop
-loop-again c =
+loop-k-preserved : tie.Need-loop-k-preserved invariant-loop decreases-loop
+loop-k-preserved c =
     let r = c.read_state-met.ensures in
     (omega (arith, c.loop-k-test.true, r.more), reaching_more _ _ _ _ _ _ _ _ _ _ _ _ _ _ _ _ _ _ _ _ _ c.loop-k.invariant.1 r)
 
@@ -96,8 +96,8 @@ written : (c : tie.After-loop-k invariant-loop decreases-loop) → let a = c.arg
     Untouched a.states t.met a.numbers.now t.numbers a.queue.now t.queue a.parents.now t.parents a.by.now t.by
 written c = let t = c.loop-k.invariant.1 in untouched_then t.reached.some (begun c.before.before.before.before) t.untouched
 
-returns_2 : tie.Need-returns invariant-loop decreases-loop
-returns_2 c =
+returns : tie.Need-returns invariant-loop decreases-loop
+returns c =
     let t = c.loop-k.invariant in
     let x = t.1.reached in
     let e : tie.Else-not-fits invariant-loop decreases-loop = c.before.before.before.before.before.before in
@@ -110,4 +110,7 @@ returns_2 c =
 pub find_reached_spec : {M : Type 1} → statement M
 find_reached_spec =
     tie.close
-    (tie.spec invariant-loop decreases-loop (λ c κs. search rules) returns (λ c κs. (room c.before).0.number_room) mul-numbers slice-write-numbers cast-queue slice-write-queue loop-holds read-state-requires add-k loop-less loop-again (λ c. (written c).past_numbers.size) (λ c. (written c).past_queue.size) (λ c. (written c).past_parents.size) (λ c. (written c).past_letters.size) returns_2)
+    (tie.spec invariant-loop decreases-loop (λ c κs. search rules) returns-then-not-fits (λ c κs. (room c.before).0.number_room)
+    offset_bounds-numbers-from bounds-numbers-from overflow_cast-queue bounds-queue-0 loop-k-init read_state-met-requires overflow_add-k
+    loop-k-smaller loop-k-preserved (λ c. (written c).past_numbers.size) (λ c. (written c).past_queue.size) (λ c. (written c).past_parents.size)
+    (λ c. (written c).past_letters.size) returns)

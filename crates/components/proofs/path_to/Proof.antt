@@ -37,17 +37,17 @@ module _ (c : tie.In-loop-i invariant-loop decreases-loop) where
       (i ≡ 0 → ⊥) × (begin ≡ 0 → ⊥) × (i < length start.args.parents.now) × (i < length start.args.by.now)
   on = tested _ _ _ _ c.loop-i-test.true
 
-slice-write-out : tie.Need-bounds-out-begin invariant-loop decreases-loop
-slice-write-out c =
+bounds-out-begin : tie.Need-bounds-out-begin invariant-loop decreases-loop
+bounds-out-begin c =
     let t = on c.before in
     let l = c.loop-i.invariant in
     omega (arith, l.0, l.1.within)
 
-cast-i : tie.Need-overflow_cast-i invariant-loop decreases-loop
-cast-i c = omega (arith, c.shared_slice_known-in-loop-i-1.given c.loop-i.i)
+overflow_cast-i : tie.Need-overflow_cast-i invariant-loop decreases-loop
+overflow_cast-i c = omega (arith, c.shared_slice_known-in-loop-i-1.given c.loop-i.i)
 
-loop-again : tie.Need-loop-i-preserved invariant-loop decreases-loop
-loop-again c =
+loop-i-preserved : tie.Need-loop-i-preserved invariant-loop decreases-loop
+loop-i-preserved c =
     let t = on c.before.before in
     let l = c.loop-i.invariant in
     (simp length-set l.0, leading_more _ _ _ _ _ _ _ l.0 l.1 t.0 t.1)
@@ -60,4 +60,7 @@ returns c =
 pub path_to_spec : {M : Type 1} → statement M
 path_to_spec =
     tie.close
-    (tie.spec invariant-loop decreases-loop (λ c. (refl, leading_none _ _ _ _)) (λ c. let t = on (c) in omega arith) (λ c. let t = on c.before in omega arith) slice-write-out (λ c. let t = on c.before in omega arith) (λ c. let t = on c.before.before in omega arith) cast-i (λ c. let t = on c.before.before in omega arith) loop-again (λ c. c.loop-i.invariant.0) returns)
+    (tie.spec invariant-loop decreases-loop (λ c. (refl, leading_none _ _ _ _)) (λ c. let t = on (c) in omega arith)
+    (λ c. let t = on c.before in omega arith) bounds-out-begin (λ c. let t = on c.before in omega arith)
+    (λ c. let t = on c.before.before in omega arith) overflow_cast-i (λ c. let t = on c.before.before in omega arith) loop-i-preserved
+    (λ c. c.loop-i.invariant.0) returns)

@@ -9,23 +9,23 @@ use Rattle.rules.proofs.Bools.{by, or_cases, or_none}
 use Rattle.explore.proofs.are_short.Statement.{statement}
 use Rattle.explore.proofs.are_short.Tie as tie
 
-returns : tie.Need-returns-then-capacity
-returns c =
+returns-then-capacity : tie.Need-returns-then-capacity
+returns-then-capacity c =
     let x = c.args.capacity in
     or_cases (eqb x 0) (ltb max_rows x) c.if-capacity.true (λ e. rw e) (λ e. by (eqb x 0) (λ f. rw f) (λ f. rw (f, e)))
 
-mul-cells : tie.Need-overflow_mul-cells
-mul-cells c =
+overflow_mul-cells : tie.Need-overflow_mul-cells
+overflow_mul-cells c =
     let s = c.args in
     let r = or_none (eqb s.capacity 0) (ltb max_rows s.capacity) c.if-capacity.false in
     let l : s.capacity * s.letters ≤ max_rows * 255 = mul-le-mul {m₂ = 255} (ltb-false max_rows s.capacity r.1) (omega arith) in
     omega arith
 
-returns_2 : tie.Need-returns
-returns_2 c =
+returns : tie.Need-returns
+returns c =
     let x = c.args.capacity in
     let r = or_none (eqb x 0) (ltb max_rows x) c.if-capacity.false in
     rw (r.0, r.1)
 
 pub are_short_spec : {M : Type 1} → statement M
-are_short_spec = tie.close (tie.spec returns mul-cells returns_2)
+are_short_spec = tie.close (tie.spec returns-then-capacity overflow_mul-cells returns)

@@ -12,13 +12,15 @@ use Rattle.explore.proofs.find_rows.Tie as tie
 fit : (c : tie.Else-unfit) → let a = c.args in is_unfit a.task a.cells.now a.capacity (length a.keys.now) (length a.targets.now) (length a.priorities.now) ≡ false
 fit c = sym c.is_unfit-unfit.ensures ∙ c.if-unfit.false
 
-returns_2 : tie.Need-returns-then-capacity-found
-returns_2 c = answer_full _ _ _ _ _ _ (fit c.before.before.before.before.before.before.before.before.before.before.before) _ _ _ _ c.explore-found.ensures c.if-capacity-found.true
+returns-then-capacity-found : tie.Need-returns-then-capacity-found
+returns-then-capacity-found c = answer_full _ _ _ _ _ _ (fit c.before.before.before.before.before.before.before.before.before.before.before) _ _ _ _ c.explore-found.ensures c.if-capacity-found.true
 
-returns-3 : tie.Need-returns
-returns-3 c = answer_rows _ _ _ _ _ _ (fit c.before.before.before.before.before.before.before.before.before.before.before) _ _ _ _ c.explore-found.ensures c.if-capacity-found.false
+returns : tie.Need-returns
+returns c = answer_rows _ _ _ _ _ _ (fit c.before.before.before.before.before.before.before.before.before.before.before) _ _ _ _ c.explore-found.ensures c.if-capacity-found.false
 
 pub find_rows_spec : {M : Type 1} → statement M
 find_rows_spec =
     tie.close
-    (tie.spec (λ c κs. search rules) (λ c. answer_unfit _ _ _ _ _ _ (sym c.is_unfit-unfit.ensures ∙ c.if-unfit.true)) (λ c κs. fit_sizes _ _ _ _ _ _ (fit c.before.before.before)) (λ c. search rules) (λ c. search rules) (λ c. search rules) returns_2 (λ c. search rules) (λ c. search rules) (λ c. search rules) returns-3)
+    (tie.spec (λ c κs. search rules) (λ c. answer_unfit _ _ _ _ _ _ (sym c.is_unfit-unfit.ensures ∙ c.if-unfit.true))
+    (λ c κs. fit_sizes _ _ _ _ _ _ (fit c.before.before.before)) (λ c. search rules) (λ c. search rules) (λ c. search rules)
+    returns-then-capacity-found (λ c. search rules) (λ c. search rules) (λ c. search rules) returns)

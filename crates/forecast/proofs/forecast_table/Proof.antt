@@ -25,8 +25,8 @@ module _ (c : tie.After-lay_table-laid) where
   refusal : c.lay_table-laid.result.number ≡ table_fault bs
   refusal = c.lay_table-laid.ensures.refusal ∙ lay_fault_lem bs _ _ (many_cells bs) (many_cells bs)
 
-returns : tie.Need-returns-then-number-ne0
-returns c = refused_says (refusal c.before.before.before) c.if-number-ne0.true
+returns-then-number-ne0 : tie.Need-returns-then-number-ne0
+returns-then-number-ne0 c = refused_says (refusal c.before.before.before) c.if-number-ne0.true
 
 -- the table is well formed
 module _ (c : tie.Else-number-ne0) where
@@ -56,18 +56,18 @@ module _ (c : tie.After-survey_reached) where
       let k = c.survey_reached.auto in
       surveyed_reached (good e) (laid e) (good e).few_states (good e).few_states k.homes k.counted c.survey_reached.ensures
 
-sum-up-requires : tie.Need-sum_up-found-requires
-sum-up-requires c κs =
+sum_up-found-requires : tie.Need-sum_up-found-requires
+sum_up-found-requires c κs =
     let x : tie.After-survey_reached = c.before.before.before.before in
     let v = survey x in
     let y = e x in
     rw (laid y).states ((good y).few_states, v.0.enough, v.1.enough, sets_few (t y) _ _ v.0 v.1 (good y).few_pairs)
 
-cast-pairs : tie.Need-overflow_cast-result
-cast-pairs c = omega (arith, c.sum_up-found.ensures.few_pairs)
+overflow_cast-result : tie.Need-overflow_cast-result
+overflow_cast-result c = omega (arith, c.sum_up-found.ensures.few_pairs)
 
-returns_2 : tie.Need-returns
-returns_2 c =
+returns : tie.Need-returns
+returns c =
     let x : tie.After-survey_reached = c.before.before.before.before.before.before in
     let v = survey x in
     let y = e x in
@@ -76,4 +76,6 @@ returns_2 c =
 pub forecast_table_spec : {M : Type 1} → statement M
 forecast_table_spec =
     tie.close
-    (tie.spec (λ c. search rules) (λ c. search rules) (λ c κs. search rules) returns (λ c. search rules) (λ c. search rules) (λ c. search rules) (λ c. search rules) (λ c. search rules) (λ c κs. search rules) (λ c. search rules) (λ c. search rules) sum-up-requires cast-pairs returns_2)
+    (tie.spec (λ c. search rules) (λ c. search rules) (λ c κs. search rules) returns-then-number-ne0 (λ c. search rules) (λ c. search rules)
+    (λ c. search rules) (λ c. search rules) (λ c. search rules) (λ c κs. search rules) (λ c. search rules) (λ c. search rules) sum_up-found-requires
+    overflow_cast-result returns)

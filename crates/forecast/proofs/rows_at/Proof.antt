@@ -4,11 +4,11 @@ use borrow.Author.Tests.{lt-ltb, le-ltb}
 use Rattle.forecast.proofs.rows_at.Statement.{statement}
 use Rattle.forecast.proofs.rows_at.Tie as tie
 
-returns : tie.Need-returns-then-home-n
-returns c = let a = c.args in rw (lt-ltb a.home a.n c.if-home-n.true) c.orders_of.ensures
+returns-then-home-n : tie.Need-returns-then-home-n
+returns-then-home-n c = let a = c.args in rw (lt-ltb a.home a.n c.if-home-n.true) c.orders_of.ensures
 
-returns_2 : tie.Need-returns-else-home-n
-returns_2 c = let a = c.args in rw (le-ltb a.home a.n c.if-home-n.false)
+returns-else-home-n : tie.Need-returns-else-home-n
+returns-else-home-n c = let a = c.args in rw (le-ltb a.home a.n c.if-home-n.false)
 
 pub rows_at_spec : {M : Type 1} → statement M
-rows_at_spec = tie.close (tie.spec (λ c κs. search rules) returns returns_2)
+rows_at_spec = tie.close (tie.spec (λ c κs. search rules) returns-then-home-n returns-else-home-n)

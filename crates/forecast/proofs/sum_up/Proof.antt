@@ -13,22 +13,20 @@ invariant-loop n homes counted rows₀ most₀ q₀ rows most q = (q ≤ n) × F
 abbrev decreases-loop : tie.decreases-loop-q
 decreases-loop n homes counted rows₀ most₀ q₀ rows most q = n - q
 
-rows-at-requires : tie.Need-rows_at-rows-requires invariant-loop decreases-loop
-rows-at-requires c κs = c.requires.3 _ c.loop-q-test.true
+rows_at-rows-requires : tie.Need-rows_at-rows-requires invariant-loop decreases-loop
+rows_at-rows-requires c κs = c.requires.3 _ c.loop-q-test.true
 
-add-rows : tie.Need-overflow_add-rows invariant-loop decreases-loop
-add-rows c =
-    let s = c in
+overflow_add-rows : tie.Need-overflow_add-rows invariant-loop decreases-loop
+overflow_add-rows c =
     let i = c.loop-q in
     let l = c.loop-q-test.true in
-    omega (arith, i.invariant.1.few_rows, s.requires.0, c.rows_at-rows.ensures, rows_few s.args.n s.args.homes.now s.args.counted.now i.q (s.requires.3 i.q l))
+    omega (arith, i.invariant.1.few_rows, c.requires.0, c.rows_at-rows.ensures, rows_few c.args.n c.args.homes.now c.args.counted.now i.q (c.requires.3 i.q l))
 
-loop-again : tie.Need-loop-q-preserved invariant-loop decreases-loop
-loop-again c =
-    let s = c in
+loop-q-preserved : tie.Need-loop-q-preserved invariant-loop decreases-loop
+loop-q-preserved c =
     let i = c.loop-q in
     let l = c.loop-q-test.true in
-    (omega arith, rw (c.rows_at-rows.ensures, c.larger-most.ensures) (figures_more s.args.n s.args.homes.now s.args.counted.now i.q i.rows i.most (s.requires.3 i.q l) i.invariant.1))
+    (omega arith, rw (c.rows_at-rows.ensures, c.larger-most.ensures) (figures_more c.args.n c.args.homes.now c.args.counted.now i.q i.rows i.most (c.requires.3 i.q l) i.invariant.1))
 
 returns : tie.Need-returns invariant-loop decreases-loop
 returns c =
@@ -39,4 +37,5 @@ returns c =
 pub sum_up_spec : {M : Type 1} → statement M
 sum_up_spec =
     tie.close
-    (tie.spec invariant-loop decreases-loop (λ c. (omega arith, figures_none _ _ _)) (λ c. search rules) (λ c. search rules) (λ c. search rules) rows-at-requires add-rows (λ c κs. search rules) (λ c. search rules) (λ c. search rules) loop-again returns)
+    (tie.spec invariant-loop decreases-loop (λ c. (omega arith, figures_none _ _ _)) (λ c. search rules) (λ c. search rules) (λ c. search rules)
+    rows_at-rows-requires overflow_add-rows (λ c κs. search rules) (λ c. search rules) (λ c. search rules) loop-q-preserved returns)

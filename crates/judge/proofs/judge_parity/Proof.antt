@@ -46,30 +46,31 @@ module _ (c : tie.Else-refused-ne0) where
   judged r h =
       promised s.args.rows s.args.letters s.args.targets.now s.args.priorities.now s.args.lead.now s.args.looped.now (rw (unrefused.0, unrefused.1) h)
 
-returns : tie.Need-returns-then-refused-ne0
-returns c =
+returns-then-refused-ne0 : tie.Need-returns-then-refused-ne0
+returns-then-refused-ne0 c =
     let a = (start c.before).args in
     promised a.rows a.letters a.targets.now a.priorities.now a.lead.now a.looped.now (rw (← refusal c.before) (refused_given _ _ c.if-refused-ne0.true))
 
-judge-small-requires : tie.Need-judge_small-requires
-judge-small-requires c κs = let one = c.before in ((unrefused one).0, (unrefused one).1, c.if-rows-le-SMALL_ROWS.true)
+judge_small-requires : tie.Need-judge_small-requires
+judge_small-requires c κs = let one = c.before in ((unrefused one).0, (unrefused one).1, c.if-rows-le-SMALL_ROWS.true)
 
-returns_2 : tie.Need-returns-then-rows-le-SMALL_ROWS
-returns_2 c = judged c.before.before c.judge_small.result c.judge_small.ensures
+returns-then-rows-le-SMALL_ROWS : tie.Need-returns-then-rows-le-SMALL_ROWS
+returns-then-rows-le-SMALL_ROWS c = judged c.before.before c.judge_small.result c.judge_small.ensures
 
-judge-middle-requires : tie.Need-judge_middle-requires
-judge-middle-requires c κs = let one = c.before.before in ((unrefused one).0, (unrefused one).1, c.if-rows-le-MIDDLE_ROWS.true)
+judge_middle-requires : tie.Need-judge_middle-requires
+judge_middle-requires c κs = let one = c.before.before in ((unrefused one).0, (unrefused one).1, c.if-rows-le-MIDDLE_ROWS.true)
 
-returns-3 : tie.Need-returns-then-rows-le-MIDDLE_ROWS
-returns-3 c = judged c.before.before.before c.judge_middle.result c.judge_middle.ensures
+returns-then-rows-le-MIDDLE_ROWS : tie.Need-returns-then-rows-le-MIDDLE_ROWS
+returns-then-rows-le-MIDDLE_ROWS c = judged c.before.before.before c.judge_middle.result c.judge_middle.ensures
 
-judge-large-requires : tie.Need-judge_large-requires
-judge-large-requires c κs = unrefused c.before.before
+judge_large-requires : tie.Need-judge_large-requires
+judge_large-requires c κs = unrefused c.before.before
 
-returns-4 : tie.Need-returns
-returns-4 c = judged c.before.before.before c.judge_large.result c.judge_large.ensures
+returns : tie.Need-returns
+returns c = judged c.before.before.before c.judge_large.result c.judge_large.ensures
 
 pub judge_parity_spec : {M : Type 1} → statement M
 judge_parity_spec =
     tie.close
-    (tie.spec (λ c κs. search rules) (λ c κs. search rules) (λ c κs. search rules) (λ c κs. search rules) returns judge-small-requires returns_2 judge-middle-requires returns-3 judge-large-requires returns-4)
+    (tie.spec (λ c κs. search rules) (λ c κs. search rules) (λ c κs. search rules) (λ c κs. search rules) returns-then-refused-ne0
+    judge_small-requires returns-then-rows-le-SMALL_ROWS judge_middle-requires returns-then-rows-le-MIDDLE_ROWS judge_large-requires returns)

@@ -8,20 +8,21 @@ use Rattle.judge.proofs.Checks.{part_rest}
 use Rattle.judge.proofs.rest_of.Statement.{statement}
 use Rattle.judge.proofs.rest_of.Tie as tie
 
-returns : tie.Need-returns-then-place-lead
-returns c = let inside = lt-ltb _ _ c.if-place-lead.true in (rw (inside, part_rest), rw inside)
+returns-then-place-lead : tie.Need-returns-then-place-lead
+returns-then-place-lead c = let inside = lt-ltb _ _ c.if-place-lead.true in (rw (inside, part_rest), rw inside)
 
-returns_2 : tie.Need-returns-then-behind-looped
-returns_2 c =
+returns-then-behind-looped : tie.Need-returns-then-behind-looped
+returns-then-behind-looped c =
     let behind = le-ltb _ _ c.if-place-lead.false in
     (rw (behind, part_rest), rw (behind, min-eq_left (le_of_lt c.if-behind-looped.true)))
 
-returns-3 : tie.Need-returns
-returns-3 c =
+returns : tie.Need-returns
+returns c =
     let behind = le-ltb _ _ c.if-place-lead.false in
     (rw (behind, part_rest, drop-length, drop_of_length-le _ c.if-behind-looped.false), rw (behind, min-eq_right c.if-behind-looped.false))
 
 pub rest_of_spec : {M : Type 1} → statement M
 rest_of_spec =
     tie.close
-    (tie.spec (λ c. search rules) (λ c. search rules) (λ c. search rules) returns (λ c. search rules) (λ c. search rules) (λ c. search rules) (λ c. search rules) returns_2 (λ c. search rules) (λ c. search rules) (λ c. search rules) returns-3)
+    (tie.spec (λ c. search rules) (λ c. search rules) (λ c. search rules) returns-then-place-lead (λ c. search rules) (λ c. search rules)
+    (λ c. search rules) (λ c. search rules) returns-then-behind-looped (λ c. search rules) (λ c. search rules) (λ c. search rules) returns)

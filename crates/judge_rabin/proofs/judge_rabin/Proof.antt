@@ -34,24 +34,24 @@ module _ (c : tie.After-first_fault-refused) where
 unrefused : (c : tie.Else-refused-ne0) → let s = start c.before in WellFormed s.args.table.now × (word_fault (table_of s.args.table.now).letters s.args.lead.now s.args.looped.now ≡ 0)
 unrefused c = first_zero _ _ (sym (refusal c.before) ∙ c.if-refused-ne0.false)
 
-returns : tie.Need-returns-then-refused-ne0
-returns c = let a = (start c.before).args in promised a.table.now a.lead.now a.looped.now (rw (← refusal c.before) (refused_given _ _ c.if-refused-ne0.true))
+returns-then-refused-ne0 : tie.Need-returns-then-refused-ne0
+returns-then-refused-ne0 c = let a = (start c.before).args in promised a.table.now a.lead.now a.looped.now (rw (← refusal c.before) (refused_given _ _ c.if-refused-ne0.true))
 
-judge-word-requires : tie.Need-judge_word-requires
-judge-word-requires c κs =
+judge_word-requires : tie.Need-judge_word-requires
+judge_word-requires c κs =
     let t = unrefused c.before.before.before in
     let n = (table_facts _ t.0).sizes.most_states in
     (t.0, t.1, record { enough = n; none = zeros_at max_states }, n, n)
 
-returns_2 : tie.Need-returns
-returns_2 c =
-    let w = c in
-    let e : tie.Else-refused-ne0 = w.before.before.before.before.before.before.before in
+returns : tie.Need-returns
+returns c =
+    let e : tie.Else-refused-ne0 = c.before.before.before.before.before.before.before in
     let t = unrefused e in
     let a = (start e.before).args in
-    promised a.table.now a.lead.now a.looped.now (rw (t.0, t.1) w.judge_word.ensures)
+    promised a.table.now a.lead.now a.looped.now (rw (t.0, t.1) c.judge_word.ensures)
 
 pub judge_rabin_spec : {M : Type 1} → statement M
 judge_rabin_spec =
     tie.close
-    (tie.spec (λ c κs. search rules) (λ c κs. search rules) (λ c κs. search rules) (λ c κs. search rules) returns (λ c. search rules) (λ c. search rules) (λ c. search rules) judge-word-requires returns_2)
+    (tie.spec (λ c κs. search rules) (λ c κs. search rules) (λ c κs. search rules) (λ c κs. search rules) returns-then-refused-ne0 (λ c. search rules)
+    (λ c. search rules) (λ c. search rules) judge_word-requires returns)

@@ -4,11 +4,12 @@ use borrow.Author.Rules.{rules}
 use Rattle.records.proofs.decided.Statement.{statement}
 use Rattle.records.proofs.decided.Tie as tie
 
-returns : tie.Need-returns-then-odd
-returns c = rw c.before.if-odd.true (omega arith)
+returns-then-odd : tie.Need-returns-then-odd
+returns-then-odd c = rw c.before.if-odd.true (omega arith)
 
-returns_2 : tie.Need-returns-then-even
-returns_2 c = rw (c.before.before.if-odd.false, c.before.if-even.true)
+returns-then-even : tie.Need-returns-then-even
+returns-then-even c = rw (c.before.before.if-odd.false, c.before.if-even.true)
 
 pub decided_spec : {M : Type 1} → statement M
-decided_spec = tie.close (tie.spec (λ c. search rules) (λ c. search rules) returns (λ c. search rules) returns_2 (λ c. search rules))
+decided_spec = tie.close
+    (tie.spec (λ c. search rules) (λ c. search rules) returns-then-odd (λ c. search rules) returns-then-even (λ c. search rules))

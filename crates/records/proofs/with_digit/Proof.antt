@@ -4,11 +4,11 @@ use borrow.Author.Tests.{ne_eqb}
 use Rattle.records.proofs.with_digit.Statement.{statement}
 use Rattle.records.proofs.with_digit.Tie as tie
 
-returns : tie.Need-returns-then-pair-eq0
-returns c = rw c.if-pair-eq0.true
+returns-then-pair-eq0 : tie.Need-returns-then-pair-eq0
+returns-then-pair-eq0 c = rw c.if-pair-eq0.true
 
-returns_2 : tie.Need-returns-else-pair-eq0
-returns_2 c = rw (ne_eqb c.before.before.before.args.pair.0 0 c.before.if-pair-eq0.false)
+returns-else-pair-eq0 : tie.Need-returns-else-pair-eq0
+returns-else-pair-eq0 c = rw (ne_eqb c.before.before.before.args.pair.0 0 c.before.if-pair-eq0.false)
 
 pub with_digit_spec : {M : Type 1} → statement M
-with_digit_spec = tie.close (tie.spec (λ c. search rules) (λ c. search rules) (λ c. search rules) returns returns_2)
+with_digit_spec = tie.close (tie.spec (λ c. search rules) (λ c. search rules) (λ c. search rules) returns-then-pair-eq0 returns-else-pair-eq0)

@@ -3,8 +3,8 @@ use borrow.Author.Rules.{rules}
 use Rattle.records.proofs.with_last.Statement.{statement}
 use Rattle.records.proofs.with_last.Tie as tie
 
-returns : tie.Need-returns-then-goes
-returns c = rw c.before.if-goes.true
+returns-then-goes : tie.Need-returns-then-goes
+returns-then-goes c = rw c.before.if-goes.true
 
 pub with_last_spec : {M : Type 1} → statement M
-with_last_spec = tie.close (tie.spec (λ c. search rules) (λ c. search rules) (λ c. search rules) returns (λ c. search rules))
+with_last_spec = tie.close (tie.spec (λ c. search rules) (λ c. search rules) (λ c. search rules) returns-then-goes (λ c. search rules))

@@ -32,14 +32,14 @@ module _ (c : tie.Else-refused-ne0) where
   known : TableFacts bytes
   known = table_facts bytes formed
 
-returns : tie.Need-returns-then-refused-ne0
-returns c = components_promised (components_refused _ _ _ c.check_table-refused.ensures c.if-refused-ne0.true)
+returns-then-refused-ne0 : tie.Need-returns-then-refused-ne0
+returns-then-refused-ne0 c = components_promised (components_refused _ _ _ c.check_table-refused.ensures c.if-refused-ne0.true)
 
-returns_2 : tie.Need-returns-then-out-n
-returns_2 c = components_promised (components_short _ (formed c.before.before) _ c.if-out-n.true)
+returns-then-out-n : tie.Need-returns-then-out-n
+returns-then-out-n c = components_promised (components_short _ (formed c.before.before) _ c.if-out-n.true)
 
-lay-targets-requires : tie.Need-lay_targets-requires
-lay-targets-requires c κs =
+lay_targets-requires : tie.Need-lay_targets-requires
+lay_targets-requires c κs =
     let e : tie.Else-refused-ne0 = c.before.before.before.before.before in
     rw (targets_part (bytes e)) (omega (arith, known e, target_count (bytes e) (formed e)))
 
@@ -57,8 +57,8 @@ module _ (c : tie.After-lay_targets) where
       let room : (table_of bs).states * (table_of bs).letters ≤ length targets = omega (arith, c.lay_targets.auto.targets, known first) in
       targets_laid bs (formed first) _ targets room (targets_written bs (formed first) _ _ targets (targets_part bs) c.lay_targets.ensures)
 
-find-homes-requires : tie.Need-find_homes-requires
-find-homes-requires c κs =
+find_homes-requires : tie.Need-find_homes-requires
+find_homes-requires c κs =
     let l = c.before.before.before in
     let k = known c.before.before.before.before.before.before.before.before.before in
     (k.sizes.most_states, k.sizes.most_letters, (laid l).enough, k.sizes.most_states)
@@ -76,8 +76,8 @@ narrow-requires c κs =
     let e : tie.Else-refused-ne0 = c.before.before.before.before.before.before.before.before.before.before.before.before.before in
     (h.enough, c.if-out-n.false, λ q l. rw (h.entry q l) (omega (arith, component_below (system_in (bytes e)) q l, known e)))
 
-returns-3 : tie.Need-returns
-returns-3 c =
+returns : tie.Need-returns
+returns c =
     let e : tie.Else-refused-ne0 = c.before.before.before.before.before.before.before.before.before.before.before.before.before.before.before.before in
     let h = homes_listed c.before.before.before.before.before.before in
     let same = tabulate_same _ (component_of (system_in (bytes e))) (states_of (bytes e)) 0 (λ q l u. h.entry q (omega arith)) in
@@ -86,4 +86,9 @@ returns-3 c =
 pub find_components_spec : {M : Type 1} → statement M
 find_components_spec =
     tie.close
-    (tie.spec (λ c κs. search rules) returns (λ c. omega (arith, known c.before)) (λ c. omega (arith, known c.before)) returns_2 (λ c. omega (arith, known c.before.before.before)) (λ c. omega (arith, known c.before.before.before)) (λ c. omega (arith, known c.before.before.before)) (λ c. omega (arith, known c.before.before.before)) (λ c. omega (arith, known c.before.before.before)) (λ c. omega (arith, known c.before.before.before)) (λ c. omega (arith, known c.before.before.before)) (λ c. search rules) lay-targets-requires (λ c. search rules) (λ c. search rules) find-homes-requires (λ c. search rules) narrow-requires (λ c. search rules) returns-3)
+    (tie.spec (λ c κs. search rules) returns-then-refused-ne0 (λ c. omega (arith, known c.before)) (λ c. omega (arith, known c.before))
+    returns-then-out-n (λ c. omega (arith, known c.before.before.before)) (λ c. omega (arith, known c.before.before.before))
+    (λ c. omega (arith, known c.before.before.before)) (λ c. omega (arith, known c.before.before.before))
+    (λ c. omega (arith, known c.before.before.before)) (λ c. omega (arith, known c.before.before.before))
+    (λ c. omega (arith, known c.before.before.before)) (λ c. search rules) lay_targets-requires (λ c. search rules) (λ c. search rules)
+    find_homes-requires (λ c. search rules) narrow-requires (λ c. search rules) returns)

@@ -37,48 +37,48 @@ room c =
     let r = or_none (ltb (length a.targets.now) (t.states * t.letters)) (ltb (length a.marks.now) (t.states * t.letters)) c.if-targets-cells.false in
     (ltb-false _ _ r.0, ltb-false _ _ r.1)
 
-returns : tie.Need-returns-then-refused-ne0
-returns c =
+returns-then-refused-ne0 : tie.Need-returns-then-refused-ne0
+returns-then-refused-ne0 c =
     let s = c.args in
     let e = c.refused_with.ensures in
     rw (e.0, e.1, e.2, e.3) (lay_refused s.table.now s.targets.now s.marks.now _ c.check_table-refused.ensures c.if-refused-ne0.true)
 
-returns_2 : tie.Need-returns-then-targets-cells
-returns_2 c =
+returns-then-targets-cells : tie.Need-returns-then-targets-cells
+returns-then-targets-cells c =
     let s = c.args in
     let e = c.refused_with-then-targets-cells.ensures in
     rw (e.0, e.1, e.2, e.3) (lay_short s.table.now (formed c.before.before.before.before) s.targets.now s.marks.now c.if-targets-cells.true)
 
-lay-targets-requires : tie.Need-lay_targets-requires
-lay-targets-requires c κs =
+lay_targets-requires : tie.Need-lay_targets-requires
+lay_targets-requires c κs =
     let e : tie.Else-refused-ne0 = c.before.before.before.before.before in
     rw (targets_part (bytes e), target_count (bytes e) (formed e)) (room c.before.before).0
 
-sub-lay-marks : tie.Need-slice_bounds-lay_marks-count
-sub-lay-marks c = omega (arith, known c.before.before.before.before.before.before.before.before)
+slice_bounds-lay_marks-count : tie.Need-slice_bounds-lay_marks-count
+slice_bounds-lay_marks-count c = omega (arith, known c.before.before.before.before.before.before.before.before)
 
-part-lay-marks-start : tie.Need-slice_bounds-lay_marks-start
-part-lay-marks-start c = omega (arith, known c.before.before.before.before.before.before.before.before)
+slice_bounds-lay_marks-start : tie.Need-slice_bounds-lay_marks-start
+slice_bounds-lay_marks-start c = omega (arith, known c.before.before.before.before.before.before.before.before)
 
-part-lay-marks-end : tie.Need-slice_bounds-lay_marks-end
-part-lay-marks-end c = omega (arith, known c.before.before.before.before.before.before.before.before)
+slice_bounds-lay_marks-end : tie.Need-slice_bounds-lay_marks-end
+slice_bounds-lay_marks-end c = omega (arith, known c.before.before.before.before.before.before.before.before)
 
-lay-marks-requires : tie.Need-lay_marks-requires
-lay-marks-requires c κs =
+lay_marks-requires : tie.Need-lay_marks-requires
+lay_marks-requires c κs =
     let e : tie.Else-refused-ne0 = c.before.before.before.before.before.before.before.before.before.before in
     (rw (marks_rest (bytes e) (formed e), mark_count (bytes e) (formed e)) (omega arith), (room c.before.before.before.before.before.before.before).1)
 
-shared-slice-read-t10 : tie.Need-bounds-table-1-2
-shared-slice-read-t10 c = omega (arith, known c.before.before.before.before.before.before.before.before.before.before.before.before.before.before)
+bounds-table-1-2 : tie.Need-bounds-table-1-2
+bounds-table-1-2 c = omega (arith, known c.before.before.before.before.before.before.before.before.before.before.before.before.before.before)
 
-shared-slice-read-t29 : tie.Need-bounds-table-3
-shared-slice-read-t29 c = omega (arith, known c.before.before.before.before.before.before.before.before.before.before.before.before.before.before.before)
+bounds-table-3 : tie.Need-bounds-table-3
+bounds-table-3 c = omega (arith, known c.before.before.before.before.before.before.before.before.before.before.before.before.before.before.before)
 
-cast-t13 : tie.Need-overflow_cast-result
-cast-t13 c = omega (arith, known c.before.before.before.before.before.before.before.before.before.before.before.before.before.before.before)
+overflow_cast-result : tie.Need-overflow_cast-result
+overflow_cast-result c = omega (arith, known c.before.before.before.before.before.before.before.before.before.before.before.before.before.before.before)
 
-returns-3 : tie.Need-returns
-returns-3 c =
+returns : tie.Need-returns
+returns c =
     let e : tie.Else-refused-ne0 = c.before.before.before.before.before.before.before.before.before.before.before.before.before.before.before in
     let s = c.args in
     let ts = targets_written (bytes e) (formed e) _ _ _ (targets_part (bytes e)) c.lay_targets.ensures in
@@ -88,4 +88,10 @@ returns-3 c =
 pub lay_table_spec : {M : Type 1} → statement M
 lay_table_spec =
     tie.close
-    (tie.spec (λ c κs. search rules) (λ c κs. search rules) returns (λ c. omega (arith, known c.before)) (λ c. omega (arith, known c.before)) (λ c. omega (arith, known c.before.before)) (λ c. omega (arith, known c.before.before)) (λ c. omega (arith, known c.before.before)) (λ c κs. search rules) returns_2 (λ c. omega (arith, known c.before.before.before)) (λ c. omega (arith, known c.before.before.before)) (λ c. omega (arith, known c.before.before.before)) (λ c. omega (arith, known c.before.before.before)) lay-targets-requires sub-lay-marks part-lay-marks-start part-lay-marks-end lay-marks-requires shared-slice-read-t10 shared-slice-read-t29 cast-t13 (λ c. search rules) (λ c. search rules) returns-3)
+    (tie.spec (λ c κs. search rules) (λ c κs. search rules) returns-then-refused-ne0 (λ c. omega (arith, known c.before))
+    (λ c. omega (arith, known c.before)) (λ c. omega (arith, known c.before.before)) (λ c. omega (arith, known c.before.before))
+    (λ c. omega (arith, known c.before.before)) (λ c κs. search rules) returns-then-targets-cells (λ c. omega (arith, known c.before.before.before))
+    (λ c. omega (arith, known c.before.before.before)) (λ c. omega (arith, known c.before.before.before))
+    (λ c. omega (arith, known c.before.before.before)) lay_targets-requires slice_bounds-lay_marks-count slice_bounds-lay_marks-start
+    slice_bounds-lay_marks-end lay_marks-requires bounds-table-1-2 bounds-table-3 overflow_cast-result (λ c. search rules) (λ c. search rules)
+    returns)

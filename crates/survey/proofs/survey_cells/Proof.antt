@@ -14,21 +14,21 @@ room : (c : tie.Else-not-fits) → let a = c.args in
     (a.states ≤ max_states) × (a.letters ≤ max_letters) × (a.states * a.letters ≤ length a.targets.now) × (a.states * a.letters ≤ length a.marks.now) × (a.states ≤ length a.homes.now) × (a.states ≤ length a.counted.now)
 room c = survey_room _ _ _ _ _ _ (sym c.survey_fits-fits.ensures ∙ c.if-not-fits.false)
 
-returns : tie.Need-returns-then-not-fits
-returns c = record { answer = sym (c.if-not-fits.true) ∙ c.survey_fits-fits.ensures; home_array = refl; counted_array = refl }
+returns-then-not-fits : tie.Need-returns-then-not-fits
+returns-then-not-fits c = record { answer = sym (c.if-not-fits.true) ∙ c.survey_fits-fits.ensures; home_array = refl; counted_array = refl }
 
-find-homes-requires : tie.Need-find_homes-requires
-find-homes-requires c κs =
+find_homes-requires : tie.Need-find_homes-requires
+find_homes-requires c κs =
     let r = room c.before in
     (r.0, r.1, r.2, r.4)
 
-write-counted-requires : tie.Need-write_counted-requires
-write-counted-requires c κs =
+write_counted-requires : tie.Need-write_counted-requires
+write_counted-requires c κs =
     let r = room c.before.before.before.before.before in
     (record { few_states = r.0; few_letters = r.1; target_room = r.2; mark_room = r.3; home_room = rw c.find_homes.auto.homes r.4 }, r.5)
 
-returns_2 : tie.Need-returns
-returns_2 c =
+returns : tie.Need-returns
+returns c =
     let e : tie.Else-not-fits = c.before.before.before.before.before.before.before.before in
     let a = e.args in
     let h = c.find_homes in
@@ -41,4 +41,4 @@ returns_2 c =
 pub survey_cells_spec : {M : Type 1} → statement M
 survey_cells_spec =
     tie.close
-    (tie.spec (λ c κs. search rules) returns find-homes-requires write-counted-requires (λ c. search rules) (λ c. search rules) returns_2)
+    (tie.spec (λ c κs. search rules) returns-then-not-fits find_homes-requires write_counted-requires (λ c. search rules) (λ c. search rules) returns)

@@ -23,19 +23,19 @@ unfit n m a b c d h =
 small : (n m : ℕ) → ltb max_states n || ltb max_letters m ≡ false → (n ≤ max_states) × (m ≤ max_letters)
 small n m h = let r = or_none (ltb max_states n) (ltb max_letters m) h in (ltb-false max_states n r.0, ltb-false max_letters m r.1)
 
-returns : tie.Need-returns-then-states-letters
-returns c = let a = c.args in unfit a.states a.letters a.targets a.marks a.homes a.counted c.if-states-letters.true
+returns-then-states-letters : tie.Need-returns-then-states-letters
+returns-then-states-letters c = let a = c.args in unfit a.states a.letters a.targets a.marks a.homes a.counted c.if-states-letters.true
 
-mul-cells : tie.Need-overflow_mul-cells
-mul-cells c =
+overflow_mul-cells : tie.Need-overflow_mul-cells
+overflow_mul-cells c =
     let l = small c.args.states c.args.letters c.if-states-letters.false in
     omega (arith, mul-le-mul l.0 l.1)
 
-returns_2 : tie.Need-returns
-returns_2 c =
+returns : tie.Need-returns
+returns c =
     let a = c.args in
     let l = small a.states a.letters c.if-states-letters.false in
     rw (le-leb a.states max_states l.0, le-leb a.letters max_letters l.1)
 
 pub survey_fits_spec : {M : Type 1} → statement M
-survey_fits_spec = tie.close (tie.spec (λ c. search rules) (λ c. search rules) returns mul-cells returns_2)
+survey_fits_spec = tie.close (tie.spec (λ c. search rules) (λ c. search rules) returns-then-states-letters overflow_mul-cells returns)

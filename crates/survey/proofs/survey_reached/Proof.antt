@@ -31,21 +31,21 @@ room c =
     let p = and_parts c.survey_fits-fits.result (ltb a.from a.states) (c.if-not-fits-from.false) in
     (survey_room _ _ _ _ _ _ (sym c.survey_fits-fits.ensures ∙ p.0), ltb-true a.from a.states p.1)
 
-returns : tie.Need-returns-then-not-fits-from
-returns c = record { answer = sym (c.if-not-fits-from.true) ∙ tested c.before; home_array = refl; counted_array = refl }
+returns-then-not-fits-from : tie.Need-returns-then-not-fits-from
+returns-then-not-fits-from c = record { answer = sym (c.if-not-fits-from.true) ∙ tested c.before; home_array = refl; counted_array = refl }
 
-find-homes-from-requires : tie.Need-find_homes_from-requires
-find-homes-from-requires c κs =
+find_homes_from-requires : tie.Need-find_homes_from-requires
+find_homes_from-requires c κs =
     let r = room c.before in
     (r.0.0, r.0.1, r.0.2, r.0.4, r.1)
 
-write-counted-requires : tie.Need-write_counted-requires
-write-counted-requires c κs =
+write_counted-requires : tie.Need-write_counted-requires
+write_counted-requires c κs =
     let r = (room c.before.before.before.before.before).0 in
     (record { few_states = r.0; few_letters = r.1; target_room = r.2; mark_room = r.3; home_room = rw c.find_homes_from.auto.homes r.4 }, r.5)
 
-returns_2 : tie.Need-returns
-returns_2 c =
+returns : tie.Need-returns
+returns c =
     let e : tie.Else-not-fits-from = c.before.before.before.before.before.before.before.before in
     let a = e.args in
     let s = parity_system a.states a.letters a.targets.now in
@@ -59,4 +59,5 @@ returns_2 c =
 pub survey_reached_spec : {M : Type 1} → statement M
 survey_reached_spec =
     tie.close
-    (tie.spec (λ c κs. search rules) returns find-homes-from-requires write-counted-requires (λ c. search rules) (λ c. search rules) returns_2)
+    (tie.spec (λ c κs. search rules) returns-then-not-fits-from find_homes_from-requires write_counted-requires (λ c. search rules)
+    (λ c. search rules) returns)

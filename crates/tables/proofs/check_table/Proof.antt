@@ -54,58 +54,59 @@ judged c =
     rw (c.before.before.bad_targets-wrong_target.ensures, c.bad_marks-wrong_marks.ensures, targets_part (bytes two), marks_part (bytes two))
     (cells_judged (bytes two) (header two) (sizes two) (enough four.before) (exact four) (lt-leb _ _ five.if-n-table.false))
 
-returns : tie.Need-returns-then-table-lt-HEADER_SIZE
-returns c = header_short _ (lt-ltb _ _ c.if-table-lt-HEADER_SIZE.true)
+returns-then-table-lt-HEADER_SIZE : tie.Need-returns-then-table-lt-HEADER_SIZE
+returns-then-table-lt-HEADER_SIZE c = header_short _ (lt-ltb _ _ c.if-table-lt-HEADER_SIZE.true)
 
-returns_2 : tie.Need-returns-then-bad_sizes
-returns_2 c = sizes_bad _ (whole c.before.before.before.before.before) (sym c.before.bad_sizes.ensures ∙ c.if-bad_sizes.true)
+returns-then-bad_sizes : tie.Need-returns-then-bad_sizes
+returns-then-bad_sizes c = sizes_bad _ (whole c.before.before.before.before.before) (sym c.before.bad_sizes.ensures ∙ c.if-bad_sizes.true)
 
-cast-cells : tie.Need-overflow_cast-cells
-cast-cells c = omega (arith, sizes_taken c)
+overflow_cast-cells : tie.Need-overflow_cast-cells
+overflow_cast-cells c = omega (arith, sizes_taken c)
 
-cast-cells-2 : tie.Need-overflow_cast-cells-2
-cast-cells-2 c = omega (arith, sizes_taken c)
+overflow_cast-cells-2 : tie.Need-overflow_cast-cells-2
+overflow_cast-cells-2 c = omega (arith, sizes_taken c)
 
-mul-cells : tie.Need-overflow_mul-cells
-mul-cells c = omega (arith, sizes_taken c)
+overflow_mul-cells : tie.Need-overflow_mul-cells
+overflow_mul-cells c = omega (arith, sizes_taken c)
 
-mul-length : tie.Need-overflow_mul-length
-mul-length c = omega (arith, sizes_taken c)
+overflow_mul-length : tie.Need-overflow_mul-length
+overflow_mul-length c = omega (arith, sizes_taken c)
 
-add-length : tie.Need-overflow_add-length
-add-length c = omega (arith, sizes_taken c)
+overflow_add-length : tie.Need-overflow_add-length
+overflow_add-length c = omega (arith, sizes_taken c)
 
-returns-3 : tie.Need-returns-then-table-length
-returns-3 c = cells_short _ (header c.before) (sizes c.before) (lt-ltb _ _ c.if-table-length.true)
+returns-then-table-length : tie.Need-returns-then-table-length
+returns-then-table-length c = cells_short _ (header c.before) (sizes c.before) (lt-ltb _ _ c.if-table-length.true)
 
-returns-4 : tie.Need-returns-then-length-table
-returns-4 c = cells_long _ (header c.before.before) (sizes c.before.before) (enough c.before) (lt-ltb _ _ c.if-length-table.true)
+returns-then-length-table : tie.Need-returns-then-length-table
+returns-then-length-table c = cells_long _ (header c.before.before) (sizes c.before.before) (enough c.before) (lt-ltb _ _ c.if-length-table.true)
 
-returns-5 : tie.Need-returns-then-n-table
-returns-5 c =
+returns-then-n-table : tie.Need-returns-then-n-table
+returns-then-n-table c =
     let four = c.before.before in
     let two = four.before.before in
     start_bad _ (header two) (sizes two) (enough four.before) (exact four) (le-leb _ _ c.if-n-table.true)
 
-bad-marks-requires : tie.Need-bad_marks-wrong_marks-requires
-bad-marks-requires c κs =
+bad_marks-wrong_marks-requires : tie.Need-bad_marks-wrong_marks-requires
+bad_marks-wrong_marks-requires c κs =
     let three = c.before.before.before.before.before.before in
     let two = three.before in
     rw (targets_part (bytes two), marks_part (bytes two)) (parts_match (bytes two) three.if-table-length.false, (sizes_taken two).most_pairs)
 
-returns-6 : tie.Need-returns-then-wrong_target
-returns-6 c = rw c.if-wrong_target.true at (judged c.before)
+returns-then-wrong_target : tie.Need-returns-then-wrong_target
+returns-then-wrong_target c = rw c.if-wrong_target.true at (judged c.before)
 
-returns-7 : tie.Need-returns-then-wrong_marks
-returns-7 c = rw (c.before.if-wrong_target.false, c.if-wrong_marks.true) at (judged c.before.before)
+returns-then-wrong_marks : tie.Need-returns-then-wrong_marks
+returns-then-wrong_marks c = rw (c.before.if-wrong_target.false, c.if-wrong_marks.true) at (judged c.before.before)
 
-returns-8 : tie.Need-returns
-returns-8 c = rw (c.before.if-wrong_target.false, c.if-wrong_marks.false) at (judged c.before.before)
+returns : tie.Need-returns
+returns c = rw (c.before.if-wrong_target.false, c.if-wrong_marks.false) at (judged c.before.before)
 
 pub check_table_spec : {M : Type 1} → statement M
 check_table_spec =
     tie.close
-    (tie.spec returns (λ c. search rules) (λ c. search rules) (λ c. search rules) (λ c κs. search rules) returns_2 cast-cells cast-cells-2 mul-cells
-    mul-length add-length returns-3 returns-4 (λ c. search rules) returns-5 (λ c. search rules) (λ c. search rules) (λ c. search rules)
-    (λ c. search rules) (λ c κs. search rules) (λ c. search rules) (λ c. search rules) (λ c. search rules) bad-marks-requires returns-6 returns-7
-    returns-8)
+    (tie.spec returns-then-table-lt-HEADER_SIZE (λ c. search rules) (λ c. search rules) (λ c. search rules) (λ c κs. search rules)
+    returns-then-bad_sizes overflow_cast-cells overflow_cast-cells-2 overflow_mul-cells overflow_mul-length overflow_add-length
+    returns-then-table-length returns-then-length-table (λ c. search rules) returns-then-n-table (λ c. search rules) (λ c. search rules)
+    (λ c. search rules) (λ c. search rules) (λ c κs. search rules) (λ c. search rules) (λ c. search rules) (λ c. search rules)
+    bad_marks-wrong_marks-requires returns-then-wrong_target returns-then-wrong_marks returns)

@@ -13,8 +13,8 @@ use Rattle.translate.proofs.Promises.{kept_few, kept_sources, translate_nothing,
 use Rattle.translate.proofs.translate_in.Statement.{statement}
 use Rattle.translate.proofs.translate_in.Tie as tie
 
-returns : tie.Need-returns-then-number-ne0
-returns c =
+returns-then-number-ne0 : tie.Need-returns-then-number-ne0
+returns-then-number-ne0 c =
     promised (translate_nothing _ _ _ _ _ _ _ _ _ c.letters_of-m.ensures c.are_short-short.ensures c.encode_table-encoded.ensures.refusal c.if-number-ne0.true)
 
 -- the table is well formed and encoded, and the arrays are long enough
@@ -36,16 +36,16 @@ module _ (c : tie.Else-number-ne0) where
       ArrayFacts a.capacity c.letters_of-m.result (length a.targets.now) (length a.priorities.now) (length a.sources.now) (length a.records.now)
   enough = array_facts _ _ _ _ _ _ (sym c.are_short-short.ensures ∙ when_none _ _ none.1)
 
-leave-rows-requires : tie.Need-leave_rows-requires
-leave-rows-requires c κs =
+leave_rows-requires : tie.Need-leave_rows-requires
+leave_rows-requires c κs =
     let e = c.before.before.before.before.before.before.before.before.before.before.before.before.before.before.before in
     let x = c.find_rows-explored in
     let n = c.told-told.ensures.1 in
     let few = kept_few _ _ _ _ _ (lent e).args.sources.now _ (none e).0 (same e) (enough e) (task e).0 (task e).2 x.ensures n in
     (omega (arith, enough e, few, same e, table_facts _ (none e).0, x.auto), kept_sources _ _ _ _ _ (lent e).args.sources.now _ (none e).0 (same e) (enough e) (task e).0 (task e).2 x.ensures n)
 
-returns_2 : tie.Need-returns
-returns_2 c =
+returns : tie.Need-returns
+returns c =
     let e = c.before.before.before.before.before.before.before.before.before.before.before.before.before.before.before.before.before.before.before.before.before.before.before.before in
     let told = c.told-told.ensures in
     promised (translate_explored _ _ _ _ _ _ _ (none e).0 (same e) (enough e) (task e).0 (task e).2 c.find_rows-explored.ensures told.0 told.1 c.leave_rows.ensures)
@@ -53,4 +53,6 @@ returns_2 c =
 pub translate_in_spec : {M : Type 1} → statement M
 translate_in_spec =
     tie.close
-    (tie.spec (λ c κs. search rules) (λ c κs. search rules) (λ c κs. search rules) (λ c. search rules) returns (λ c. search rules) (λ c. (task c).1) (λ c. sym (length-take-le _ _ (task c).1)) (λ c κs. search rules) (λ c κs. search rules) leave-rows-requires (λ c. search rules) (λ c. search rules) (λ c. search rules) (λ c. search rules) (λ c. search rules) returns_2)
+    (tie.spec (λ c κs. search rules) (λ c κs. search rules) (λ c κs. search rules) (λ c. search rules) returns-then-number-ne0 (λ c. search rules)
+    (λ c. (task c).1) (λ c. sym (length-take-le _ _ (task c).1)) (λ c κs. search rules) (λ c κs. search rules) leave_rows-requires (λ c. search rules)
+    (λ c. search rules) (λ c. search rules) (λ c. search rules) (λ c. search rules) returns)

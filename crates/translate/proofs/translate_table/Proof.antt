@@ -9,4 +9,7 @@ use Rattle.translate.proofs.translate_table.Tie as tie
 pub translate_table_spec : {M : Type 1} → statement M
 translate_table_spec =
     tie.close
-    (tie.spec (λ c. search rules) (λ c κs. let few = few_cells_lem _ c.if-table-le-FEW_BYTES.true in (λ e. few, few)) (λ c. search rules) (λ c. search rules) (λ c. search rules) (λ c. search rules) (λ c. search rules) (λ c. search rules) (λ c κs. (λ e. absurd (false≢true e), many_cells _)) (λ c. search rules) (λ c. search rules) (λ c. search rules) (λ c. search rules) (λ c. search rules))
+    (tie.spec (λ c. search rules) (λ c κs. let few = few_cells_lem _ c.if-table-le-FEW_BYTES.true in (λ e. few, few)) (λ c. search rules)
+    (λ c. search rules) (λ c. search rules) (λ c. search rules) (λ c. search rules) (λ c. search rules)
+    (λ c κs. (λ e. absurd (false≢true e), many_cells _)) (λ c. search rules) (λ c. search rules) (λ c. search rules) (λ c. search rules)
+    (λ c. search rules))

@@ -16,8 +16,8 @@ laid c = c.before.before.before.before.before.before.before.before
 abbrev start : tie.After-lay_table-laid → tie.Start
 start c = c.before.before.before.before
 
-array-read-rising : tie.Need-bounds-sets-q
-array-read-rising c =
+bounds-sets-q : tie.Need-bounds-sets-q
+bounds-sets-q c =
     let s = start (laid c.before.before) in omega (arith, (table_facts s.args.table.now s.requires.1).sizes.most_states)
 
 returns : tie.Need-returns
@@ -32,4 +32,5 @@ returns c =
 pub count_card_spec : {M : Type 1} → statement M
 count_card_spec =
     tie.close
-    (tie.spec (λ c. search rules) (λ c. search rules) (λ c κs. search rules) (λ c. search rules) (λ c. search rules) (λ c. search rules) (λ c. search rules) (λ c. search rules) (λ c κs. search rules) array-read-rising (λ c κs. search rules) returns)
+    (tie.spec (λ c. search rules) (λ c. search rules) (λ c κs. search rules) (λ c. search rules) (λ c. search rules) (λ c. search rules)
+    (λ c. search rules) (λ c. search rules) (λ c κs. search rules) bounds-sets-q (λ c κs. search rules) returns)

@@ -9,8 +9,7 @@ use Rattle.cards.proofs.marked.move_card.Tie as tie
 
 returns : tie.Need-returns
 returns c =
-    let s = c in
-    ap pairs_in c.moved.ensures ∙ moved_pairs s.args.before.code s.args.pairs s.requires.1 ∙ card_holds _ s.requires.0
+    ap pairs_in c.moved.ensures ∙ moved_pairs c.args.before.code c.args.pairs c.requires.1 ∙ card_holds _ c.requires.0
 
 pub move_card_spec : {M : Type 1} → statement M
 move_card_spec = tie.close (tie.spec (λ c κs. search rules) returns)

@@ -8,10 +8,9 @@ use Rattle.cards.proofs.marked.translate_card.Tie as tie
 
 returns : tie.Need-returns
 returns c =
-    let s = c in
     let says = c.translate_table-translation.ensures.0 in
-    let claim = card_holds _ s.requires.card in
-    record { arrays = s.requires.arrays; card = s.requires.card; begins = card_arrays says (not_refused says claim.is_translated (omega arith) (omega arith) (omega arith) (omega arith)) claim }
+    let claim = card_holds _ c.requires.card in
+    record { arrays = c.requires.arrays; card = c.requires.card; begins = card_arrays says (not_refused says claim.is_translated (omega arith) (omega arith) (omega arith) (omega arith)) claim }
 
 pub translate_card_spec : {M : Type 1} → statement M
 translate_card_spec = tie.close (tie.spec (λ c κs. search rules) returns)

@@ -45,16 +45,15 @@ module _ (e : tie.Else-m-letter) where
   open_room : (s.args.count < s.args.n) × (e.scan-found.result.parts ≤ s.args.count) × (e.scan-found.result.letter < done_number)
   open_room = (room _ _ _ _ s.requires.1.1.searched.places _ fresh.0 fresh.1, omega (arith, e.scan-found.ensures.read.fewer, (few s).0), omega (arith, e.if-m-letter.false, s.requires.0.letters_small))
 
-scan-requires : tie.Need-scan-found-requires
-scan-requires c κs =
+scan-found-requires : tie.Need-scan-found-requires
+scan-found-requires c κs =
     let s = c.before.before.before in
     let p = s.requires.1.1.searched.parts in
     (state s, s.requires.0.cell_room, s.requires.0.work_room, s.requires.3, omega (arith, few s), p.first s.requires.3, p.rising)
 
-returns : tie.Need-returns-then-m-letter
-returns c =
-    let s = c in
-    λ outs x. turn_read _ _ _ _ _ _ _ outs s.requires.0 x s.requires.2 s.requires.4 s.requires.5 _ _ c.scan-found.ensures c.if-m-letter.true
+returns-then-m-letter : tie.Need-returns-then-m-letter
+returns-then-m-letter c =
+    λ outs x. turn_read _ _ _ _ _ _ _ outs c.requires.0 x c.requires.2 c.requires.4 c.requires.5 _ _ c.scan-found.ensures c.if-m-letter.true
 
 enter-requires : tie.Need-enter-requires
 enter-requires c κs =
@@ -66,11 +65,11 @@ enter-requires c κs =
 abbrev opened : tie.After-slice_known-3-1 → tie.Else-m-letter
 opened c = c.before.before.before.before.before
 
-slice-write-work-2 : tie.Need-bounds-work-next-2
-slice-write-work-2 c = omega (arith, entry c.before.before.before.before.before.before.before.before.before.before, c.enter.auto.work)
+bounds-work-next-2 : tie.Need-bounds-work-next-2
+bounds-work-next-2 c = omega (arith, entry c.before.before.before.before.before.before.before.before.before.before, c.enter.auto.work)
 
-returns_2 : tie.Need-returns
-returns_2 c =
+returns : tie.Need-returns
+returns c =
     let e : tie.Else-m-letter = c.before.before.before.before.before in
     let t = (s e).requires in
     λ outs x. turn_entered _ _ _ _ _ _ _ outs t.0 x t.2 t.4 t.5 _ _ e.scan-found.ensures _ e.if-m-letter.false (rw c.target_at-target.ensures at c.enter.ensures)
@@ -78,4 +77,12 @@ returns_2 c =
 pub extend_spec : {M : Type 1} → statement M
 extend_spec =
     tie.close
-    (tie.spec (λ c. omega arith) (λ c. omega (arith, entry c.before.before)) (λ c. omega (arith, entry c.before.before)) (λ c. (entry c.before.before.before).0) (λ c. let a = c.args in omega (arith, c.slice_known-2-1.given (4 * a.n + a.q))) scan-requires (λ c. omega (arith, c.requires.0.letters_small)) (λ c. omega (arith, entry c.before.before.before.before.before)) (λ c. (entry c.before.before.before.before.before).0) (λ c. omega arith) (λ c. search rules) returns (λ c. omega (arith, cells (s c))) (λ c. omega (arith, here c)) (λ c κs. here c) enter-requires (λ c. omega (arith, open_room (opened c))) (λ c. omega (arith, open_room (opened c))) (λ c. omega (arith, entry (s (opened c)))) slice-write-work-2 (λ c. omega (arith, open_room (opened c), few (s (opened c)), entry (s (opened c)))) (λ c. omega (arith, open_room (opened c), few (s (opened c)), entry (s (opened c)))) (λ c. omega (arith, open_room (opened c), few (s (opened c)), entry (s (opened c)))) (λ c. search rules) returns_2)
+    (tie.spec (λ c. omega arith) (λ c. omega (arith, entry c.before.before)) (λ c. omega (arith, entry c.before.before))
+    (λ c. (entry c.before.before.before).0) (λ c. let a = c.args in omega (arith, c.slice_known-2-1.given (4 * a.n + a.q))) scan-found-requires
+    (λ c. omega (arith, c.requires.0.letters_small)) (λ c. omega (arith, entry c.before.before.before.before.before))
+    (λ c. (entry c.before.before.before.before.before).0) (λ c. omega arith) (λ c. search rules) returns-then-m-letter
+    (λ c. omega (arith, cells (s c))) (λ c. omega (arith, here c)) (λ c κs. here c) enter-requires (λ c. omega (arith, open_room (opened c)))
+    (λ c. omega (arith, open_room (opened c))) (λ c. omega (arith, entry (s (opened c)))) bounds-work-next-2
+    (λ c. omega (arith, open_room (opened c), few (s (opened c)), entry (s (opened c))))
+    (λ c. omega (arith, open_room (opened c), few (s (opened c)), entry (s (opened c))))
+    (λ c. omega (arith, open_room (opened c), few (s (opened c)), entry (s (opened c)))) (λ c. search rules) returns)

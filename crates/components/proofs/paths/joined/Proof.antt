@@ -14,11 +14,11 @@ invariant-loop starts parts number kept₀ kept = (0 < kept) × (kept ≤ parts)
 abbrev decreases-loop : tie.decreases-loop-kept
 decreases-loop starts parts number kept₀ kept = kept
 
-loop-holds : tie.Need-loop-kept-init invariant-loop decreases-loop
-loop-holds c = (omega arith, omega arith, λ k l u. absurd (omega arith))
+loop-kept-init : tie.Need-loop-kept-init invariant-loop decreases-loop
+loop-kept-init c = (omega arith, omega arith, λ k l u. absurd (omega arith))
 
-loop-again : tie.Need-loop-kept-preserved invariant-loop decreases-loop
-loop-again c = let t = c.loop-kept in
+loop-kept-preserved : tie.Need-loop-kept-preserved invariant-loop decreases-loop
+loop-kept-preserved c = let t = c.loop-kept in
     let some : 0 < t.kept - 1 = same_or t.kept 1 (λ e. absurd (omega (arith, c.loop-kept-test.true, c.requires.2, ap (λ (k : ℕ). at c.args.starts.now (k - 1)) e))) (λ d. omega (arith, t.invariant.0)) in
     (some, omega arith, λ k l u. same_or k (t.kept - 1) (λ e. rw e c.loop-kept-test.true) (λ d. t.invariant.2 k (omega arith) u))
 
@@ -29,4 +29,5 @@ returns c = let t = c.loop-kept in
 pub joined_spec : {M : Type 1} → statement M
 joined_spec =
     tie.close
-    (tie.spec invariant-loop decreases-loop loop-holds (λ c. omega arith) (λ c. omega arith) (λ c. omega arith) (λ c. omega arith) (λ c. omega arith) loop-again returns)
+    (tie.spec invariant-loop decreases-loop loop-kept-init (λ c. omega arith) (λ c. omega arith) (λ c. omega arith) (λ c. omega arith)
+    (λ c. omega arith) loop-kept-preserved returns)

@@ -39,16 +39,15 @@ module _ (c : tie.In-loop-i invariant-loop decreases-loop) where
   state : at t.loop-i.work (s.args.n + t.loop-i.i) < s.args.n
   state = rw is (s.requires.4 t.loop-i.i c.loop-i-test.true)
 
-smallest-requires : tie.Need-smallest-label-requires invariant-loop decreases-loop
-smallest-requires c κs =
-    let s = c in
-    (s.requires.0, rw (half s.args.n) (omega (arith, s.requires.1, part_length s.args.n s.args.n s.args.work.now (omega (arith, s.requires.2)))))
+smallest-label-requires : tie.Need-smallest-label-requires invariant-loop decreases-loop
+smallest-label-requires c κs =
+    (c.requires.0, rw (half c.args.n) (omega (arith, c.requires.1, part_length c.args.n c.args.n c.args.work.now (omega (arith, c.requires.2)))))
 
-loop-holds : tie.Need-loop-i-init invariant-loop decreases-loop
-loop-holds c = (omega arith, omega (arith, c.requires.0), refl, refl, named_none _ _ _ _ _)
+loop-i-init : tie.Need-loop-i-init invariant-loop decreases-loop
+loop-i-init c = (omega arith, omega (arith, c.requires.0), refl, refl, named_none _ _ _ _ _)
 
-loop-again : tie.Need-loop-i-preserved invariant-loop decreases-loop
-loop-again c =
+loop-i-preserved : tie.Need-loop-i-preserved invariant-loop decreases-loop
+loop-i-preserved c =
     let u : tie.In-loop-i invariant-loop decreases-loop = c.before in
     let v = u.loop-i.invariant in
     let l = state u in
@@ -62,4 +61,8 @@ returns c =
 pub name_component_spec : {M : Type 1} → statement M
 name_component_spec =
     tie.close
-    (tie.spec invariant-loop decreases-loop (λ c. omega arith) (λ c. omega arith) (λ c. omega arith) (λ c. omega arith) (λ c. omega arith) smallest-requires loop-holds (λ c. omega arith) (λ c. omega arith) (λ c. omega arith) (λ c. omega (arith, state c.before)) (λ c. omega (arith, state c.before)) (λ c. omega (arith, state c.before, c.loop-i.invariant.2)) (λ c. omega (arith, state c.before)) (λ c. omega (arith, state c.before, c.loop-i.invariant.3)) (λ c. omega arith) (λ c. omega arith) loop-again (λ c. c.loop-i.invariant.2) (λ c. c.loop-i.invariant.3) returns)
+    (tie.spec invariant-loop decreases-loop (λ c. omega arith) (λ c. omega arith) (λ c. omega arith) (λ c. omega arith) (λ c. omega arith)
+    smallest-label-requires loop-i-init (λ c. omega arith) (λ c. omega arith) (λ c. omega arith) (λ c. omega (arith, state c.before))
+    (λ c. omega (arith, state c.before)) (λ c. omega (arith, state c.before, c.loop-i.invariant.2)) (λ c. omega (arith, state c.before))
+    (λ c. omega (arith, state c.before, c.loop-i.invariant.3)) (λ c. omega arith) (λ c. omega arith) loop-i-preserved (λ c. c.loop-i.invariant.2)
+    (λ c. c.loop-i.invariant.3) returns)

@@ -41,24 +41,23 @@ module _ (c : tie.In-loop-a invariant-loop decreases-loop) where
   number_is : (t : ℕ) → t < s.args.n → at (numbers_in s.args.n s.args.work.now) t ≡ at s.args.work.now t
   number_is t l = get_or-take s.args.n s.args.work.now t 0 l
 
-mul-first : tie.Need-overflow_mul-first invariant-loop decreases-loop
-mul-first c = omega (arith, row c.before.before.before)
+overflow_mul-first : tie.Need-overflow_mul-first invariant-loop decreases-loop
+overflow_mul-first c = omega (arith, row c.before.before.before)
 
-returns : tie.Need-returns-then-number-eq0 invariant-loop decreases-loop
-returns c =
+returns-then-number-eq0 : tie.Need-returns-then-number-eq0 invariant-loop decreases-loop
+returns-then-number-eq0 c =
     let u : tie.In-loop-a invariant-loop decreases-loop = c.before.before.before.before in
     let t = c.if-target-n.true in
     record { read = u.loop-a.invariant; fresh = λ l. rw (← c.target_at-target.ensures) (t, rw (number_is u _ t) c.if-number-eq0.true) }
 
-joined-requires : tie.Need-joined-kept-requires invariant-loop decreases-loop
-joined-requires c κs =
+joined-kept-requires : tie.Need-joined-kept-requires invariant-loop decreases-loop
+joined-kept-requires c κs =
     let t = c.loop-a.invariant in
-    let s = c in
     let z = number_is c.before.before.before.before _ c.if-target-n.true in
-    rw (third s.args.n) (t.some, omega (arith, t.fewer, s.requires.4, part_length s.args.n (2 * s.args.n) s.args.work.now (omega (arith, s.requires.2))), omega (arith, s.requires.5, c.if-number-eq0.false), λ i j l u. s.requires.6 i j l (omega (arith, t.fewer)))
+    rw (third c.args.n) (t.some, omega (arith, t.fewer, c.requires.4, part_length c.args.n (2 * c.args.n) c.args.work.now (omega (arith, c.requires.2))), omega (arith, c.requires.5, c.if-number-eq0.false), λ i j l u. c.requires.6 i j l (omega (arith, t.fewer)))
 
-loop-again : tie.Need-loop-a-preserved invariant-loop decreases-loop
-loop-again c =
+loop-a-preserved : tie.Need-loop-a-preserved invariant-loop decreases-loop
+loop-a-preserved c =
     let u : tie.In-loop-a invariant-loop decreases-loop = c.before.before in
     let t = u.loop-a in
     let r = c.target_at-target in
@@ -69,10 +68,13 @@ loop-again c =
     (λ w. rw w.kept-is (letters_missing _ _ _ _ _ _ t.a t.kept t.invariant (rw r.ensures at w.if-target-n.false)))
     c.if-target-n.branch-raw
 
-returns_2 : tie.Need-returns invariant-loop decreases-loop
-returns_2 c = record { read = c.loop-a.invariant; fresh = λ l. absurd (omega (arith, c.loop-a-test.false)) }
+returns : tie.Need-returns invariant-loop decreases-loop
+returns c = record { read = c.loop-a.invariant; fresh = λ l. absurd (omega (arith, c.loop-a-test.false)) }
 
 pub scan_spec : {M : Type 1} → statement M
 scan_spec =
     tie.close
-    (tie.spec invariant-loop decreases-loop (λ c. omega arith) (λ c. omega arith) (λ c. omega arith) (λ c. omega arith) (λ c. omega arith) (λ c. omega arith) mul-first (λ c. letters_none _ _ _ _ _ _ c.requires.3) (λ c. omega (arith, here c)) (λ c κs. here c) (λ c. omega arith) (λ c. omega arith) returns joined-requires (λ c. omega (arith, c.loop-a-test.true)) (λ c. omega (arith, c.loop-a-test.true)) loop-again returns_2)
+    (tie.spec invariant-loop decreases-loop (λ c. omega arith) (λ c. omega arith) (λ c. omega arith) (λ c. omega arith) (λ c. omega arith)
+    (λ c. omega arith) overflow_mul-first (λ c. letters_none _ _ _ _ _ _ c.requires.3) (λ c. omega (arith, here c)) (λ c κs. here c)
+    (λ c. omega arith) (λ c. omega arith) returns-then-number-eq0 joined-kept-requires (λ c. omega (arith, c.loop-a-test.true))
+    (λ c. omega (arith, c.loop-a-test.true)) loop-a-preserved returns)

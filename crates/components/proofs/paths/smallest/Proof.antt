@@ -15,11 +15,11 @@ invariant-loop stack from to best₀ i₀ best i = (from < i) × (i ≤ to) × S
 abbrev decreases-loop : tie.decreases-loop-i
 decreases-loop stack from to best₀ i₀ best i = to - i
 
-loop-holds : tie.Need-loop-i-init invariant-loop decreases-loop
-loop-holds c = (omega arith, omega arith, smallest_one _ _)
+loop-i-init : tie.Need-loop-i-init invariant-loop decreases-loop
+loop-i-init c = (omega arith, omega arith, smallest_one _ _)
 
-loop-again : tie.Need-loop-i-preserved invariant-loop decreases-loop
-loop-again c = let t = c.loop-i in
+loop-i-preserved : tie.Need-loop-i-preserved invariant-loop decreases-loop
+loop-i-preserved c = let t = c.loop-i in
     (omega arith, omega arith, ⊎_elim (λ w. rw w.best-is (smallest_better _ _ t.i t.best (omega arith) t.invariant.2 w.if-q-best.true)) (λ w. rw w.best-is (smallest_kept _ _ t.i t.best (omega arith) t.invariant.2 w.if-q-best.false)) c.if-q-best.branch-raw)
 
 returns : tie.Need-returns invariant-loop decreases-loop
@@ -28,4 +28,5 @@ returns c = rw (le_antisymm c.loop-i.invariant.1 c.loop-i-test.false) at c.loop-
 pub smallest_spec : {M : Type 1} → statement M
 smallest_spec =
     tie.close
-    (tie.spec invariant-loop decreases-loop (λ c. omega arith) (λ c. omega arith) (λ c. omega arith) loop-holds (λ c. omega arith) (λ c. omega arith) (λ c. omega arith) (λ c. omega arith) loop-again returns)
+    (tie.spec invariant-loop decreases-loop (λ c. omega arith) (λ c. omega arith) (λ c. omega arith) loop-i-init (λ c. omega arith) (λ c. omega arith)
+    (λ c. omega arith) (λ c. omega arith) loop-i-preserved returns)

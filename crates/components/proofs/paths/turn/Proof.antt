@@ -68,17 +68,17 @@ extend-requires c κs =
     let h = c.if-left-gt0.true in
     (s.requires.0, (_, s.requires.2), h, (few s).0, waits_is s h, omega (arith, last_is s, number_is s h, c.if-start-work.true))
 
-name-component-requires : tie.Need-name_component-requires
-name-component-requires c κs = let s = c.before.before.before.before.before.before.before in (last_below s, (few s).3, (few s).5, s.requires.1, λ i u. s.requires.2.searched.places.state i u)
+name_component-requires : tie.Need-name_component-requires
+name_component-requires c κs = let s = c.before.before.before.before.before.before.before in (last_below s, (few s).3, (few s).5, s.requires.1, λ i u. s.requires.2.searched.places.state i u)
 
-returns : tie.Need-returns-then-start-work
-returns c = c.extend.ensures _ c.requires.2
+returns-then-start-work : tie.Need-returns-then-start-work
+returns-then-start-work c = c.extend.ensures _ c.requires.2
 
-sub-t12 : tie.Need-overflow_sub-result
-sub-t12 c = (few c.before.before.before.before.before.before.before.before.before.before.before.before).0
+overflow_sub-result : tie.Need-overflow_sub-result
+overflow_sub-result c = (few c.before.before.before.before.before.before.before.before.before.before.before.before).0
 
-returns_2 : tie.Need-returns
-returns_2 c =
+returns : tie.Need-returns
+returns c =
     let j : tie.Joined-left-gt0 = c.before.before.before.before.before.before.before in
     let t = s j in
     turn_closed _ _ _ _ _ _ _ _ _ t.requires.0 t.requires.2 (few t).0 (quiet j) _ (sym (last_is t)) c.name_component.ensures
@@ -86,4 +86,12 @@ returns_2 c =
 pub turn_spec : {M : Type 1} → statement M
 turn_spec =
     tie.close
-    (tie.spec (λ c. omega arith) (λ c. (few c.before.before.before).0) (λ c. omega (arith, few c.before.before.before)) (λ c. omega (arith, few c.before.before.before)) (λ c. omega (arith, few c.before.before.before.before)) (λ c. omega arith) (λ c. omega arith) (λ c. omega (arith, few c.before.before.before.before.before)) (λ c. omega (arith, few c.before.before.before.before.before)) (λ c. omega (arith, few c.before.before.before.before.before.before)) (λ c. let s = c.before.before.before.before.before.before in omega (arith, waits_state s c.if-left-gt0.true, few s)) (λ c. let s = c.before.before.before.before.before.before in omega (arith, waits_state s c.if-left-gt0.true, few s)) (λ c. let s = c.before.before.before.before.before.before.before in omega (arith, waits_state s c.if-left-gt0.true, few s)) extend-requires (λ c. omega arith) returns (λ c. omega (arith, last_below (s c), few (s c))) name-component-requires sub-t12 (λ c. omega arith) (λ c. omega arith) returns_2)
+    (tie.spec (λ c. omega arith) (λ c. (few c.before.before.before).0) (λ c. omega (arith, few c.before.before.before))
+    (λ c. omega (arith, few c.before.before.before)) (λ c. omega (arith, few c.before.before.before.before)) (λ c. omega arith) (λ c. omega arith)
+    (λ c. omega (arith, few c.before.before.before.before.before)) (λ c. omega (arith, few c.before.before.before.before.before))
+    (λ c. omega (arith, few c.before.before.before.before.before.before))
+    (λ c. let s = c.before.before.before.before.before.before in omega (arith, waits_state s c.if-left-gt0.true, few s))
+    (λ c. let s = c.before.before.before.before.before.before in omega (arith, waits_state s c.if-left-gt0.true, few s))
+    (λ c. let s = c.before.before.before.before.before.before.before in omega (arith, waits_state s c.if-left-gt0.true, few s)) extend-requires
+    (λ c. omega arith) returns-then-start-work (λ c. omega (arith, last_below (s c), few (s c))) name_component-requires overflow_sub-result
+    (λ c. omega arith) (λ c. omega arith) returns)

@@ -43,23 +43,23 @@ module _ (s : tie.Start) where
       → ReadSays go s.args.count s.args.count s.args.k (s.args.a + 1) s.args.numbers.now s.args.numbers.now s.args.queue.now s.args.queue.now s.args.parents.now s.args.parents.now s.args.by.now s.args.by.now
   same h = record { reached = reached_old _ _ _ _ _ _ _ _ _ s.requires.1 h; more = omega arith; untouched = untouched_none _ _ _ _ _ _ }
 
-returns : tie.Need-returns-then-n-target
-returns c = let s = c.before in (same s (λ t. absurd (omega (arith, c.if-n-target.true, s.requires.4))), refl)
+returns-then-n-target : tie.Need-returns-then-n-target
+returns-then-n-target c = let s = c.before in (same s (λ t. absurd (omega (arith, c.if-n-target.true, s.requires.4))), refl)
 
-returns_2 : tie.Need-returns-then-numbers-target-ne0
-returns_2 c = let s = c.before.before.before in (same s (λ t. let n : (at s.args.numbers.now s.args.target ≡ 0) → ⊥ = c.if-numbers-target-ne0.true in let g : 0 < at s.args.numbers.now s.args.target = omega arith in rw s.requires.4 at g), refl)
+returns-then-numbers-target-ne0 : tie.Need-returns-then-numbers-target-ne0
+returns-then-numbers-target-ne0 c = let s = c.before.before.before in (same s (λ t. let n : (at s.args.numbers.now s.args.target ≡ 0) → ⊥ = c.if-numbers-target-ne0.true in let g : 0 < at s.args.numbers.now s.args.target = omega arith in rw s.requires.4 at g), refl)
 
-slice-write-queue : tie.Need-bounds-queue-count
-slice-write-queue c = omega (arith, has_room c, (s c).requires.0.queue_room)
+bounds-queue-count : tie.Need-bounds-queue-count
+bounds-queue-count c = omega (arith, has_room c, (s c).requires.0.queue_room)
 
-slice-write-parents : tie.Need-bounds-parents-count
-slice-write-parents c = omega (arith, has_room c, (s c).requires.0.parent_room)
+bounds-parents-count : tie.Need-bounds-parents-count
+bounds-parents-count c = omega (arith, has_room c, (s c).requires.0.parent_room)
 
-slice-write-by : tie.Need-bounds-by-count
-slice-write-by c = omega (arith, has_room c, (s c).requires.0.letter_room)
+bounds-by-count : tie.Need-bounds-by-count
+bounds-by-count c = omega (arith, has_room c, (s c).requires.0.letter_room)
 
-returns-3 : tie.Need-returns
-returns-3 c = let a = (s c).args in
+returns : tie.Need-returns
+returns c = let a = (s c).args in
     let r = (s c).requires.0 in
     let e = (s c).requires.4 in
     let l = has_room c in (
@@ -83,4 +83,7 @@ returns-3 c = let a = (s c).args in
 pub read_letter_spec : {M : Type 1} → statement M
 read_letter_spec =
     tie.close
-    (tie.spec returns (λ c. omega arith) (λ c. omega arith) returns_2 (λ c. omega arith) (λ c. omega arith) (λ c. omega arith) (λ c. omega arith) (λ c. omega arith) (λ c. omega arith) slice-write-queue (λ c. omega arith) (λ c. omega arith) slice-write-parents (λ c. omega arith) slice-write-by (λ c. omega arith) (λ c. search rules) (λ c. search rules) (λ c. search rules) (λ c. search rules) returns-3)
+    (tie.spec returns-then-n-target (λ c. omega arith) (λ c. omega arith) returns-then-numbers-target-ne0 (λ c. omega arith) (λ c. omega arith)
+    (λ c. omega arith) (λ c. omega arith) (λ c. omega arith) (λ c. omega arith) bounds-queue-count (λ c. omega arith) (λ c. omega arith)
+    bounds-parents-count (λ c. omega arith) bounds-by-count (λ c. omega arith) (λ c. search rules) (λ c. search rules) (λ c. search rules)
+    (λ c. search rules) returns)

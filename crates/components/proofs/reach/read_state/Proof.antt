@@ -39,37 +39,36 @@ module _ (c : tie.In-loop-a invariant-loop decreases-loop) where
   within : state s * s.args.m + c.loop-a.a < length s.args.targets.now
   within = omega (arith, cells s, c.loop-a-test.true)
 
-mul-first : tie.Need-offset_bounds-queue-k invariant-loop decreases-loop
-mul-first c = omega (arith, place c.before.before.before.before.before, c.requires.0.small)
+offset_bounds-queue-k : tie.Need-offset_bounds-queue-k invariant-loop decreases-loop
+offset_bounds-queue-k c = omega (arith, place c.before.before.before.before.before, c.requires.0.small)
 
-slice-read-first : tie.Need-bounds-queue-k invariant-loop decreases-loop
-slice-read-first c = omega (arith, place c.before.before.before.before.before.before, c.requires.0.queue_room)
+bounds-queue-k : tie.Need-bounds-queue-k invariant-loop decreases-loop
+bounds-queue-k c = omega (arith, place c.before.before.before.before.before.before, c.requires.0.queue_room)
 
-cast-first : tie.Need-overflow_cast-first invariant-loop decreases-loop
-cast-first c = omega (arith, below c.before.before.before.before.before.before, c.requires.0.small)
+overflow_cast-first : tie.Need-overflow_cast-first invariant-loop decreases-loop
+overflow_cast-first c = omega (arith, below c.before.before.before.before.before.before, c.requires.0.small)
 
-mul-first-2 : tie.Need-overflow_mul-first invariant-loop decreases-loop
-mul-first-2 c = omega (arith, cells c.before.before.before.before.before.before)
+overflow_mul-first : tie.Need-overflow_mul-first invariant-loop decreases-loop
+overflow_mul-first c = omega (arith, cells c.before.before.before.before.before.before)
 
-loop-holds : tie.Need-loop-a-init invariant-loop decreases-loop
-loop-holds c =
-    let s = c in
-    (omega arith, omega arith, refl, reaching_none _ _ _ _ _ _ _ _ _ _ s.requires.1 s.requires.0)
+loop-a-init : tie.Need-loop-a-init invariant-loop decreases-loop
+loop-a-init c =
+    (omega arith, omega arith, refl, reaching_none _ _ _ _ _ _ _ _ _ _ c.requires.1 c.requires.0)
 
-read-letter-requires : tie.Need-read_letter-met-requires invariant-loop decreases-loop
-read-letter-requires c κs =
+read_letter-met-requires : tie.Need-read_letter-met-requires invariant-loop decreases-loop
+read_letter-met-requires c κs =
     let u : tie.In-loop-a invariant-loop decreases-loop = c.before.before.before.before.before in
     let t = u.loop-a.invariant in
     (t.3.room, reached_own _ _ _ _ _ _ _ _ _ t.3.reached, omega (arith, (s u).requires.2, t.1), u.loop-a-test.true, c.target_at-target.ensures ∙ ap (λ (q : ℕ). get_or (s u).args.targets.now (q * (s u).args.m + u.loop-a.a) no_row) (sym t.2))
 
-add_a : tie.Need-overflow_add-a invariant-loop decreases-loop
-add_a c = omega (arith, c.loop-a-test.true)
+overflow_add-a : tie.Need-overflow_add-a invariant-loop decreases-loop
+overflow_add-a c = omega (arith, c.loop-a-test.true)
 
-loop-less : tie.Need-loop-a-smaller invariant-loop decreases-loop
-loop-less c = omega (arith, c.loop-a-test.true)
+loop-a-smaller : tie.Need-loop-a-smaller invariant-loop decreases-loop
+loop-a-smaller c = omega (arith, c.loop-a-test.true)
 
-loop-again : tie.Need-loop-a-preserved invariant-loop decreases-loop
-loop-again c =
+loop-a-preserved : tie.Need-loop-a-preserved invariant-loop decreases-loop
+loop-a-preserved c =
     let r = c.read_letter-met in
     let t = c.loop-a.invariant in
     let u = c.loop-a-test.true in
@@ -83,4 +82,7 @@ returns c =
 pub read_state_spec : {M : Type 1} → statement M
 read_state_spec =
     tie.close
-    (tie.spec invariant-loop decreases-loop mul-first slice-read-first cast-first mul-first-2 loop-holds (λ c. omega (arith, within c)) (λ c κs. within c) read-letter-requires add_a loop-less loop-again (λ c. c.loop-a.invariant.3.untouched.past_numbers.size) (λ c. c.loop-a.invariant.3.untouched.past_queue.size) (λ c. c.loop-a.invariant.3.untouched.past_parents.size) (λ c. c.loop-a.invariant.3.untouched.past_letters.size) returns)
+    (tie.spec invariant-loop decreases-loop offset_bounds-queue-k bounds-queue-k overflow_cast-first overflow_mul-first loop-a-init
+    (λ c. omega (arith, within c)) (λ c κs. within c) read_letter-met-requires overflow_add-a loop-a-smaller loop-a-preserved
+    (λ c. c.loop-a.invariant.3.untouched.past_numbers.size) (λ c. c.loop-a.invariant.3.untouched.past_queue.size)
+    (λ c. c.loop-a.invariant.3.untouched.past_parents.size) (λ c. c.loop-a.invariant.3.untouched.past_letters.size) returns)

@@ -17,12 +17,13 @@ invariant-loop cells n found₀ i₀ found i = (i ≤ length cells) × (found ||
 abbrev decreases-loop : tie.decreases-loop-i
 decreases-loop cells n found₀ i₀ found i = length cells - i
 
-loop-again : tie.Need-loop-i-preserved invariant-loop decreases-loop
-loop-again c =
+loop-i-preserved : tie.Need-loop-i-preserved invariant-loop decreases-loop
+loop-i-preserved c =
     let i = c.loop-i in
     (omega arith, rw c.strays-found.ensures (any_turn (strays _) i.found _ i.i c.loop-i-test.true) ∙ i.invariant.1)
 
 pub any_strays_spec : {M : Type 1} → statement M
 any_strays_spec =
     tie.close
-    (tie.spec invariant-loop decreases-loop (λ c. (search rules, refl)) (λ c. search rules) (λ c. search rules) (λ c κs. search rules) (λ c. search rules) (λ c. search rules) loop-again (λ c. any_end _ _ _ _ c.loop-i-test.false c.loop-i.invariant.1))
+    (tie.spec invariant-loop decreases-loop (λ c. (search rules, refl)) (λ c. search rules) (λ c. search rules) (λ c κs. search rules)
+    (λ c. search rules) (λ c. search rules) loop-i-preserved (λ c. any_end _ _ _ _ c.loop-i-test.false c.loop-i.invariant.1))

@@ -11,9 +11,9 @@ use Rattle.explore.specs.Exploring.{is_unfit}
 use Rattle.explore.proofs.check.is_unfit.Statement.{statement}
 use Rattle.explore.proofs.check.is_unfit.Tie as tie
 
-returns : tie.Need-returns-then-m
+returns-then-m : tie.Need-returns-then-m
 unfolding is_unfit
-returns c =
+returns-then-m c =
     let m = c.args.task.letters in
     or_cases (eqb m 0) (ltb max_letters m) c.if-m.true (λ e. rw e) (λ e. by (eqb m 0) (λ f. rw f) (λ f. rw (f, e)))
 
@@ -21,11 +21,13 @@ returns c =
 in_range : (c : tie.Else-m) → let m = c.args.task.letters in (eqb m 0 ≡ false) × (ltb max_letters m ≡ false)
 in_range c = or_none (eqb c.args.task.letters 0) (ltb max_letters c.args.task.letters) c.if-m.false
 
-returns_2 : tie.Need-returns
+returns : tie.Need-returns
 unfolding is_unfit
-returns_2 c = rw ((in_range c.before.before.before).0, (in_range c.before.before.before).1, c.any_strays.ensures, c.are_short.ensures)
+returns c = rw ((in_range c.before.before.before).0, (in_range c.before.before.before).1, c.any_strays.ensures, c.are_short.ensures)
 
 pub is_unfit_spec : {M : Type 1} → statement M
 is_unfit_spec =
     tie.close
-    (tie.spec (λ c. search rules) returns (λ c. omega (arith, eqb-false c.args.task.letters 0 (in_range c).0)) (λ c. search rules) (λ c κs. search rules) (λ c. omega (arith, ltb-false max_letters c.args.task.letters (in_range c.before.before).1)) (λ c κs. search rules) returns_2)
+    (tie.spec (λ c. search rules) returns-then-m (λ c. omega (arith, eqb-false c.args.task.letters 0 (in_range c).0)) (λ c. search rules)
+    (λ c κs. search rules) (λ c. omega (arith, ltb-false max_letters c.args.task.letters (in_range c.before.before).1)) (λ c κs. search rules)
+    returns)

@@ -22,4 +22,5 @@ returns c = record { is = rw (c.moved-next.ensures, c.priority-priority.ensures)
 pub effect_by_pairs_spec : {M : Type 1} → statement M
 effect_by_pairs_spec =
     tie.close
-    (tie.spec (λ c. search rules) (λ c. search rules) (λ c κs. search rules) (λ c κs. search rules) (λ c. search rules) (λ c. search rules) (λ c. omega (arith, small c.before.before, c.priority-priority.type_inv)) returns)
+    (tie.spec (λ c. search rules) (λ c. search rules) (λ c κs. search rules) (λ c κs. search rules) (λ c. search rules) (λ c. search rules)
+    (λ c. omega (arith, small c.before.before, c.priority-priority.type_inv)) returns)

@@ -15,15 +15,14 @@ use Rattle.explore.proofs.Answers.{rows_done, many_after}
 use Rattle.explore.proofs.rows.explore.Statement.{statement}
 use Rattle.explore.proofs.rows.explore.Tie as tie
 
-index-keys-requires : tie.Need-index_keys-requires
-index-keys-requires c κs =
+index_keys-requires : tie.Need-index_keys-requires
+index_keys-requires c κs =
     let r = c.requires.1 in
     (omega arith, simp length-set (omega (arith, r.some_rows, r.key_room)), omega arith, omega arith, zeros_at 256)
 
-read-rows-requires : tie.Need-read_rows-few-requires
-read-rows-requires c κs =
-    let s = c in
-    (s.requires.0, stage_begun s.args.task s.args.cells.now _ _ _ _ s.requires.0 s.requires.1, c.index_keys.ensures, λ x l k. omega (arith, s.requires.0.most_letters))
+read_rows-few-requires : tie.Need-read_rows-few-requires
+read_rows-few-requires c κs =
+    (c.requires.0, stage_begun c.args.task c.args.cells.now _ _ _ _ c.requires.0 c.requires.1, c.index_keys.ensures, λ x l k. omega (arith, c.requires.0.most_letters))
 
 -- rows have been read with a small index
 module _ (c : tie.After-read_rows-few) where
@@ -40,8 +39,8 @@ module _ (c : tie.After-read_rows-few) where
 stopped : (i r c : ℕ) → eqb i r || ltb c r ≡ true → i < r → r ≤ c → ⊥
 stopped i r c h l k = or_cases (eqb i r) (ltb c r) h (λ e. omega (arith, eqb-true i r e)) (λ e. omega (arith, ltb-true c r e))
 
-returns : tie.Need-returns-then-few-capacity
-returns c =
+returns-then-few-capacity : tie.Need-returns-then-few-capacity
+returns-then-few-capacity c =
     let u = c.before.before.before.before.before.before.before.before.before.before.before in
     rows_done _ _ _ _ _ _ _ _ _ _ _ (part u) (stopped _ _ _ c.if-few-capacity.true)
 
@@ -52,12 +51,18 @@ more c =
     let r = u.read_rows-few.result in
     ltb-false _ _ (or_none (eqb r.row r.known) (ltb (s u).args.capacity r.known) c.if-few-capacity.false).1
 
-returns_2 : tie.Need-returns
-returns_2 c =
+returns : tie.Need-returns
+returns c =
     let y = c.read_many.ensures in
     many_after _ _ _ _ _ _ _ _ _ _ _ (part c.before.before.before.before.before.before.before.before.before.before.before.before.before.before.before.before.before.before.before.before.before) (more c.before.before.before.before.before.before.before.before.before.before) _ _ _ _ y.1 y.0
 
 pub explore_spec : {M : Type 1} → statement M
 explore_spec =
     tie.close
-    (tie.spec (λ c. search rules) (λ c. search rules) (λ c. search rules) index-keys-requires (λ c. search rules) (λ c. search rules) read-rows-requires (λ c. (part c.before.before.before.before.before.before.before.before.before.before.before).key_rest.size) (λ c. (part c.before.before.before.before.before.before.before.before.before.before.before).target_rest.size) (λ c. (part c.before.before.before.before.before.before.before.before.before.before.before).priority_rest.size) returns (λ c κs. ((s c.before.before.before.before.before.before.before.before.before.before.before.before.before.before).requires.0, (part c.before.before.before.before.before.before.before.before.before.before.before.before.before.before).stage (more c.before.before.before))) (λ c. c.read_many.ensures.0.key_rest.size ∙ (part c.before.before.before.before.before.before.before.before.before.before.before.before.before.before.before.before.before.before.before.before.before).key_rest.size) (λ c. search rules) (λ c. search rules) returns_2)
+    (tie.spec (λ c. search rules) (λ c. search rules) (λ c. search rules) index_keys-requires (λ c. search rules) (λ c. search rules)
+    read_rows-few-requires (λ c. (part c.before.before.before.before.before.before.before.before.before.before.before).key_rest.size)
+    (λ c. (part c.before.before.before.before.before.before.before.before.before.before.before).target_rest.size)
+    (λ c. (part c.before.before.before.before.before.before.before.before.before.before.before).priority_rest.size) returns-then-few-capacity
+    (λ c κs. ((s c.before.before.before.before.before.before.before.before.before.before.before.before.before.before).requires.0, (part c.before.before.before.before.before.before.before.before.before.before.before.before.before.before).stage (more c.before.before.before)))
+    (λ c. c.read_many.ensures.0.key_rest.size ∙ (part c.before.before.before.before.before.before.before.before.before.before.before.before.before.before.before.before.before.before.before.before.before).key_rest.size)
+    (λ c. search rules) (λ c. search rules) returns)

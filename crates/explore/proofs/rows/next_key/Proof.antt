@@ -8,16 +8,16 @@ use Rattle.explore.specs.Cells.{step_in, key_of, span, crossing_kind}
 use Rattle.explore.proofs.rows.next_key.Statement.{statement}
 use Rattle.explore.proofs.rows.next_key.Tie as tie
 
-returns : tie.Need-returns-then-code-lt-INSIDE
+returns-then-code-lt-INSIDE : tie.Need-returns-then-code-lt-INSIDE
 unfolding step_in
-returns c =
+returns-then-code-lt-INSIDE c =
     let code = c.args.code in
     let whole : key_of (code % crossing_kind / span) (code % span) ≡ code % crossing_kind = omega arith in
     rw (c.requires, lt-ltb _ _ c.if-code-lt-INSIDE.true) (c.key_of.ensures ∙ whole)
 
-returns_2 : tie.Need-returns
+returns : tie.Need-returns
 unfolding step_in
-returns_2 c = rw (c.requires, le-ltb _ _ c.if-code-lt-INSIDE.false) c.key_of-2.ensures
+returns c = rw (c.requires, le-ltb _ _ c.if-code-lt-INSIDE.false) c.key_of-2.ensures
 
 pub next_key_spec : {M : Type 1} → statement M
-next_key_spec = tie.close (tie.spec (λ c κs. search rules) returns (λ c κs. search rules) returns_2)
+next_key_spec = tie.close (tie.spec (λ c κs. search rules) returns-then-code-lt-INSIDE (λ c κs. search rules) returns)

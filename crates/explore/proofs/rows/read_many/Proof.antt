@@ -6,16 +6,15 @@ use Rattle.explore.proofs.Answers.{rows_done}
 use Rattle.explore.proofs.rows.read_many.Statement.{statement}
 use Rattle.explore.proofs.rows.read_many.Tie as tie
 
-index-keys-requires : tie.Need-index_keys-requires
-index-keys-requires c κs =
+index_keys-requires : tie.Need-index_keys-requires
+index_keys-requires c κs =
     let f = c.requires.1.known.filed in
     (omega (arith, f.few, f.most), omega (arith, f.few, f.key_room), omega arith, omega (arith, f.few, f.most), zeros_at 16384)
 
-read-rows-requires : tie.Need-read_rows-all-requires
-read-rows-requires c κs =
-    let s = c in
-    let f = s.requires.1.known.filed in
-    (s.requires.0, s.requires.1, c.index_keys.ensures, λ x l k. omega (arith, f.most))
+read_rows-all-requires : tie.Need-read_rows-all-requires
+read_rows-all-requires c κs =
+    let f = c.requires.1.known.filed in
+    (c.requires.0, c.requires.1, c.index_keys.ensures, λ x l k. omega (arith, f.most))
 
 returns : tie.Need-returns
 returns c =
@@ -26,4 +25,5 @@ returns c =
 pub read_many_spec : {M : Type 1} → statement M
 read_many_spec =
     tie.close
-    (tie.spec (λ c. search rules) (λ c. search rules) index-keys-requires (λ c. search rules) (λ c. search rules) read-rows-requires (λ c. search rules) (λ c. search rules) (λ c. search rules) returns)
+    (tie.spec (λ c. search rules) (λ c. search rules) index_keys-requires (λ c. search rules) (λ c. search rules) read_rows-all-requires
+    (λ c. search rules) (λ c. search rules) (λ c. search rules) returns)

@@ -55,8 +55,7 @@ tests c =
 room : (c : tie.In-loop-a invariant-loop decreases-loop) → let i = c.loop-a in i.known < c.args.capacity → i.known < length i.links
 room c l =
     let i = c.loop-a in
-    let s = c in
-    omega (arith, i.invariant.3, s.requires.4 i.known l (omega (arith, i.invariant.0.most, (tests c).0)))
+    omega (arith, i.invariant.3, c.requires.4 i.known l (omega (arith, i.invariant.0.most, (tests c).0)))
 
 -- an effect is at no later place than its letter
 place_few : (c : tie.In-loop-a invariant-loop decreases-loop) → c.loop-a.a * c.write_effects-stride.result < max_letters
@@ -65,40 +64,40 @@ place_few c =
     let l : c.loop-a.a * w.result ≤ c.loop-a.a * 1 = mul-le-mul (omega arith) w.ensures.most in
     omega (arith, l, (tests c).0, c.requires.0.most_letters)
 
-cast-first : tie.Need-overflow_cast-first invariant-loop decreases-loop
-cast-first c =
+overflow_cast-first : tie.Need-overflow_cast-first invariant-loop decreases-loop
+overflow_cast-first c =
     let s = c.before.before.before.before.before.before.before in
     omega (arith, s.requires.2.fits s.args.i s.requires.1, div-le_self (length s.args.cells.now) (m s))
 
-write-effects-requires : tie.Need-write_effects-stride-requires invariant-loop decreases-loop
-write-effects-requires c κs =
+write_effects-stride-requires : tie.Need-write_effects-stride-requires invariant-loop decreases-loop
+write_effects-stride-requires c κs =
     let s = c.before.before.before.before.before.before.before.before in
     (omega arith, s.requires.0.most_letters, s.requires.0.some_letters, row_cells s, omega arith)
 
-shared-slice-read-read-cell : tie.Need-bounds-cells-first invariant-loop decreases-loop
-shared-slice-read-read-cell c = omega (arith, (tests c.before).0, row_cells c.before.before.before.before.before.before.before.before.before.before.before.before.before.before)
+bounds-cells-first : tie.Need-bounds-cells-first invariant-loop decreases-loop
+bounds-cells-first c = omega (arith, (tests c.before).0, row_cells c.before.before.before.before.before.before.before.before.before.before.before.before.before.before)
 
-mul-read-cell-4 : tie.Need-overflow_mul-i invariant-loop decreases-loop
-mul-read-cell-4 c = omega (arith, in_rows c.before.before.before.before.before.before.before.before.before.before.before.before.before.before.before, few_rows c.before.before.before.before.before.before.before.before.before.before.before.before.before.before.before)
+overflow_mul-i : tie.Need-overflow_mul-i invariant-loop decreases-loop
+overflow_mul-i c = omega (arith, in_rows c.before.before.before.before.before.before.before.before.before.before.before.before.before.before.before, few_rows c.before.before.before.before.before.before.before.before.before.before.before.before.before.before.before)
 
-add-read-cell-2 : tie.Need-overflow_add-i invariant-loop decreases-loop
-add-read-cell-2 c = omega (arith, (tests c.before.before).0, in_rows c.before.before.before.before.before.before.before.before.before.before.before.before.before.before.before, few_rows c.before.before.before.before.before.before.before.before.before.before.before.before.before.before.before)
+overflow_add-i : tie.Need-overflow_add-i invariant-loop decreases-loop
+overflow_add-i c = omega (arith, (tests c.before.before).0, in_rows c.before.before.before.before.before.before.before.before.before.before.before.before.before.before.before, few_rows c.before.before.before.before.before.before.before.before.before.before.before.before.before.before.before)
 
-read-cell-requires : tie.Need-read_cell-known-requires invariant-loop decreases-loop
-read-cell-requires c κs =
+read_cell-known-requires : tie.Need-read_cell-known-requires invariant-loop decreases-loop
+read_cell-known-requires c κs =
     let u = c.before.before.before.before.before.before.before in
     let s = c.before.before.before.before.before.before.before.before.before.before.before.before.before.before.before.before.before.before.before.before in
     let k = c.loop-a.invariant.0.known (tests u).1 in
     (k.filed, c.loop-a.invariant.1 (tests u).1, λ l. room u l, (c.write_effects-stride.ensures.each c.loop-a.a (tests u).0).small, omega (arith, (tests u).0, in_rows s, k.target_room), omega (arith, (tests u).0, in_rows s, k.priority_room))
 
-add_a : tie.Need-overflow_add-a invariant-loop decreases-loop
-add_a c = omega (arith, (tests c.before.before.before.before.before.before.before.before.before.before.before.before.before.before.before.before.before.before).0, c.requires.0.most_letters)
+overflow_add-a : tie.Need-overflow_add-a invariant-loop decreases-loop
+overflow_add-a c = omega (arith, (tests c.before.before.before.before.before.before.before.before.before.before.before.before.before.before.before.before.before.before).0, c.requires.0.most_letters)
 
-loop-less : tie.Need-loop-a-smaller invariant-loop decreases-loop
-loop-less c = omega (arith, (tests c.before.before.before.before.before.before.before.before.before.before.before.before.before.before.before.before.before.before).0)
+loop-a-smaller : tie.Need-loop-a-smaller invariant-loop decreases-loop
+loop-a-smaller c = omega (arith, (tests c.before.before.before.before.before.before.before.before.before.before.before.before.before.before.before.before.before.before).0)
 
-loop-again : tie.Need-loop-a-preserved invariant-loop decreases-loop
-loop-again c =
+loop-a-preserved : tie.Need-loop-a-preserved invariant-loop decreases-loop
+loop-a-preserved c =
     let u = c.before.before.before.before.before.before.before.before.before.before.before.before.before.before.before.before.before.before in
     let s = c.before.before.before.before.before.before.before.before.before.before.before.before.before.before.before.before.before.before.before.before.before.before.before.before.before.before.before.before.before.before.before in
     let turn = c.loop-a in
@@ -116,4 +115,12 @@ returns c =
 pub read_row_spec : {M : Type 1} → statement M
 read_row_spec =
     tie.close
-    (tie.spec invariant-loop decreases-loop (λ c. search rules) (λ c. search rules) cast-first (λ c. omega (arith, row_cells c.before.before.before.before.before.before.before)) (λ c. search rules) write-effects-requires (λ c. (row_begun _ _ _ _ _ _ _ _ c.requires.2, λ h. c.requires.3, refl, refl)) (λ c. omega (arith, (tests c).0, row_cells c.before.before.before.before.before.before.before.before.before.before.before.before.before)) (λ c. omega (arith, (tests c).0, row_cells c.before.before.before.before.before.before.before.before.before.before.before.before.before)) shared-slice-read-read-cell (λ c. omega (arith, place_few c.before)) (λ c. omega (arith, place_few c.before)) (λ c. omega (arith, place_few c.before)) mul-read-cell-4 add-read-cell-2 read-cell-requires add_a loop-less loop-again (λ c. c.loop-a.invariant.0.key_rest.size) (λ c. c.loop-a.invariant.2) (λ c. c.loop-a.invariant.3) (λ c. c.loop-a.invariant.0.target_rest.size) (λ c. c.loop-a.invariant.0.priority_rest.size) returns)
+    (tie.spec invariant-loop decreases-loop (λ c. search rules) (λ c. search rules) overflow_cast-first
+    (λ c. omega (arith, row_cells c.before.before.before.before.before.before.before)) (λ c. search rules) write_effects-stride-requires
+    (λ c. (row_begun _ _ _ _ _ _ _ _ c.requires.2, λ h. c.requires.3, refl, refl))
+    (λ c. omega (arith, (tests c).0, row_cells c.before.before.before.before.before.before.before.before.before.before.before.before.before))
+    (λ c. omega (arith, (tests c).0, row_cells c.before.before.before.before.before.before.before.before.before.before.before.before.before))
+    bounds-cells-first (λ c. omega (arith, place_few c.before)) (λ c. omega (arith, place_few c.before)) (λ c. omega (arith, place_few c.before))
+    overflow_mul-i overflow_add-i read_cell-known-requires overflow_add-a loop-a-smaller loop-a-preserved (λ c. c.loop-a.invariant.0.key_rest.size)
+    (λ c. c.loop-a.invariant.2) (λ c. c.loop-a.invariant.3) (λ c. c.loop-a.invariant.0.target_rest.size)
+    (λ c. c.loop-a.invariant.0.priority_rest.size) returns)

@@ -37,24 +37,23 @@ module _ (c : tie.In-loop-i invariant-loop decreases-loop) where
 test_fails : (i r l c : ℕ) → ltb i r && (leb r l && leb r c) ≡ false → i < r → r ≤ l → r ≤ c → ⊥
 test_fails i r l c h a b d = clash (and_both (ltb i r) (leb r l && leb r c) (lt-ltb i r a) (and_both (leb r l) (leb r c) (le-leb r l b) (le-leb r c d))) h
 
-loop-holds : tie.Need-loop-i-init invariant-loop decreases-loop
-loop-holds c =
-    let s = c in
-    (part_begun s.args.task s.args.cells.now _ _ _ _ _ _ s.requires.1, λ h. s.requires.2, omega arith, refl, refl)
+loop-i-init : tie.Need-loop-i-init invariant-loop decreases-loop
+loop-i-init c =
+    (part_begun c.args.task c.args.cells.now _ _ _ _ _ _ c.requires.1, λ h. c.requires.2, omega arith, refl, refl)
 
-read-row-requires : tie.Need-read_row-known-requires invariant-loop decreases-loop
-read-row-requires c κs =
+read_row-known-requires : tie.Need-read_row-known-requires invariant-loop decreases-loop
+read_row-known-requires c κs =
     let u = c.before.before.before.before.before in
     ((s u).requires.0, (tests u).0, (c.loop-i.invariant.0.stage (tests u).2).known, c.loop-i.invariant.1 (tests u).2, λ x l k. omega (arith, c.loop-i.invariant.4, (s u).requires.3 x l (omega (arith, (tests u).1))))
 
-add-i : tie.Need-overflow_add-i invariant-loop decreases-loop
-add-i c = omega (arith, tests c.before.before.before.before.before.before.before.before.before.before.before.before.before.before.before.before, tests c.before.before.before.before.before.before.before.before.before.before.before.before.before.before.before.before, (s c.before.before.before.before.before.before.before.before.before.before.before.before.before.before.before.before).requires.1.known.filed.most)
+overflow_add-i : tie.Need-overflow_add-i invariant-loop decreases-loop
+overflow_add-i c = omega (arith, tests c.before.before.before.before.before.before.before.before.before.before.before.before.before.before.before.before, tests c.before.before.before.before.before.before.before.before.before.before.before.before.before.before.before.before, (s c.before.before.before.before.before.before.before.before.before.before.before.before.before.before.before.before).requires.1.known.filed.most)
 
-loop-less : tie.Need-loop-i-smaller invariant-loop decreases-loop
-loop-less c = omega (arith, tests c.before.before.before.before.before.before.before.before.before.before.before.before.before.before.before.before, tests c.before.before.before.before.before.before.before.before.before.before.before.before.before.before.before.before)
+loop-i-smaller : tie.Need-loop-i-smaller invariant-loop decreases-loop
+loop-i-smaller c = omega (arith, tests c.before.before.before.before.before.before.before.before.before.before.before.before.before.before.before.before, tests c.before.before.before.before.before.before.before.before.before.before.before.before.before.before.before.before)
 
-loop-again : tie.Need-loop-i-preserved invariant-loop decreases-loop
-loop-again c =
+loop-i-preserved : tie.Need-loop-i-preserved invariant-loop decreases-loop
+loop-i-preserved c =
     let u = c.before.before.before.before.before.before.before.before.before.before.before.before.before.before.before.before in
     let a = (s u).args in
     let call = c.read_row-known in
@@ -69,4 +68,6 @@ returns c =
 pub read_rows_spec : {M : Type 1} → statement M
 read_rows_spec =
     tie.close
-    (tie.spec invariant-loop decreases-loop loop-holds read-row-requires add-i loop-less loop-again (λ c. c.loop-i.invariant.0.key_rest.size) (λ c. c.loop-i.invariant.3) (λ c. c.loop-i.invariant.4) (λ c. c.loop-i.invariant.0.target_rest.size) (λ c. c.loop-i.invariant.0.priority_rest.size) returns)
+    (tie.spec invariant-loop decreases-loop loop-i-init read_row-known-requires overflow_add-i loop-i-smaller loop-i-preserved
+    (λ c. c.loop-i.invariant.0.key_rest.size) (λ c. c.loop-i.invariant.3) (λ c. c.loop-i.invariant.4) (λ c. c.loop-i.invariant.0.target_rest.size)
+    (λ c. c.loop-i.invariant.0.priority_rest.size) returns)

@@ -85,114 +85,118 @@ decided c =
     let met = round_sums u l.loop-first-test.false good ltb (priority_at s.args.letters s.args.priorities.now) _ c.peak_of.result (fits l) l.loop-first.invariant.1 c.peak_of.ensures in
     round_judged u l.loop-first-test.false good ∙ ap (λ (z : ℕ). pick (is_even z) accepts rejects) (largest_is (priority_at s.args.letters s.args.priorities.now) (recurring (system s) 0 s.args.lead.now s.args.looped.now) c.peak_of.result met)
 
-read-piece-requires : tie.Need-read_piece-entry-requires invariant-loop decreases-loop
-read-piece-requires c κs = let s = c.before.before.before.before.before.before in (s.requires.0, (word s).lead_letters, (table s).some_rows)
+read_piece-entry-requires : tie.Need-read_piece-entry-requires invariant-loop decreases-loop
+read_piece-entry-requires c κs = let s = c.before.before.before.before.before.before in (s.requires.0, (word s).lead_letters, (table s).some_rows)
 
-cast-read : tie.Need-overflow_cast-read invariant-loop decreases-loop
-cast-read c =
+overflow_cast-read : tie.Need-overflow_cast-read invariant-loop decreases-loop
+overflow_cast-read c =
     let missed = misses_within _ _ _ _ (c.read_piece-entry.ensures.0.misses c.if-rows-entry.true) in omega (arith, missed, (word c.before.before.before.before.before.before.before.before.before.before).most_lead)
 
-returns : tie.Need-returns-then-rows-entry invariant-loop decreases-loop
-returns c =
+returns-then-rows-entry : tie.Need-returns-then-rows-entry invariant-loop decreases-loop
+returns-then-rows-entry c =
     let s = c.before.before.before.before.before.before.before.before.before.before in
     sym (misses_judged (system s) 0 _ s.args.looped.now (parity_good s.args.letters s.args.priorities.now) (table s).some_rows (word s).lead_letters (word s).loop_letters _ (c.read_piece-entry.ensures.0.misses c.if-rows-entry.true))
 
-loop-holds : tie.Need-loop-first-init invariant-loop decreases-loop
-loop-holds c =
+loop-first-init : tie.Need-loop-first-init invariant-loop decreases-loop
+loop-first-init c =
     let s = c.before.before.before.before.before.before.before.before.before in
     let there = c.if-rows-entry.false in
     (underway_entry (system s) 0 _ s.args.looped.now _ s.args.begun.now (c.read_piece-entry.ensures.0.leads there) there s.requires.2, λ i h. absurd (not-suc-le-zero h), s.requires.3, refl, refl)
 
-read-piece-requires-2 : tie.Need-read_piece-reading-requires invariant-loop decreases-loop
-read-piece-requires-2 c κs = let s = start c.before in (s.requires.0, (word s).loop_letters, state c)
+read_piece-reading-requires : tie.Need-read_piece-reading-requires invariant-loop decreases-loop
+read_piece-reading-requires c κs = let s = start c.before in (s.requires.0, (word s).loop_letters, state c)
 
-add_read : tie.Need-overflow_add-read invariant-loop decreases-loop
-add_read c = omega (arith, counted c)
+overflow_add-read : tie.Need-overflow_add-read invariant-loop decreases-loop
+overflow_add-read c = omega (arith, counted c)
 
-cast-read-2 : tie.Need-overflow_cast-read-then-rows-reading invariant-loop decreases-loop
-cast-read-2 c = omega (arith, counted c)
+overflow_cast-read-then-rows-reading : tie.Need-overflow_cast-read-then-rows-reading invariant-loop decreases-loop
+overflow_cast-read-then-rows-reading c = omega (arith, counted c)
 
-same_length : tie.Need-shape_of-begun-then-rows-reading invariant-loop decreases-loop
-same_length c = c.loop-first.invariant.3
+shape_of-begun-then-rows-reading : tie.Need-shape_of-begun-then-rows-reading invariant-loop decreases-loop
+shape_of-begun-then-rows-reading c = c.loop-first.invariant.3
 
-same_length_2 : tie.Need-shape_of-peaks-then-rows-reading invariant-loop decreases-loop
-same_length_2 c = c.loop-first.invariant.4
+shape_of-peaks-then-rows-reading : tie.Need-shape_of-peaks-then-rows-reading invariant-loop decreases-loop
+shape_of-peaks-then-rows-reading c = c.loop-first.invariant.4
 
-returns_2 : tie.Need-returns-then-rows-reading invariant-loop decreases-loop
-returns_2 c =
+returns-then-rows-reading : tie.Need-returns-then-rows-reading invariant-loop decreases-loop
+returns-then-rows-reading c =
     let a = c.before.before.before.before.before in
     let s = start a in
     sym (underway_misses a.loop-first.invariant.0 (parity_good s.args.letters s.args.priorities.now) (table s).some_rows (word s).lead_letters (word s).loop_letters _ (c.read_piece-reading.ensures.0.misses c.if-rows-reading.true))
 
-slice-write-peaks : tie.Need-bounds-peaks-pass invariant-loop decreases-loop
-slice-write-peaks c = omega (arith, early c.before.before.before, c.loop-first.invariant.2)
+bounds-peaks-pass : tie.Need-bounds-peaks-pass invariant-loop decreases-loop
+bounds-peaks-pass c = omega (arith, early c.before.before.before, c.loop-first.invariant.2)
 
-add-pass : tie.Need-overflow_add-pass invariant-loop decreases-loop
-add-pass c = omega (arith, early c.before.before.before, (table (start c.before.before.before.before)).most_rows)
+overflow_add-pass : tie.Need-overflow_add-pass invariant-loop decreases-loop
+overflow_add-pass c = omega (arith, early c.before.before.before, (table (start c.before.before.before.before)).most_rows)
 
-cast-begun : tie.Need-overflow_cast-begun invariant-loop decreases-loop
-cast-begun c = omega (arith, early c.before.before.before, (table (start c.before.before.before.before)).most_rows)
+overflow_cast-begun : tie.Need-overflow_cast-begun invariant-loop decreases-loop
+overflow_cast-begun c = omega (arith, early c.before.before.before, (table (start c.before.before.before.before)).most_rows)
 
-mul-begun : tie.Need-offset_bounds-begun-place invariant-loop decreases-loop
-mul-begun c = omega (arith, state c.before.before.before, (table (start c.before.before.before.before)).most_rows)
+offset_bounds-begun-place : tie.Need-offset_bounds-begun-place invariant-loop decreases-loop
+offset_bounds-begun-place c = omega (arith, state c.before.before.before, (table (start c.before.before.before.before)).most_rows)
 
-slice-write-begun : tie.Need-bounds-begun-place invariant-loop decreases-loop
-slice-write-begun c = omega (arith, state c.before.before.before, c.loop-first.invariant.0.room)
+bounds-begun-place : tie.Need-bounds-begun-place invariant-loop decreases-loop
+bounds-begun-place c = omega (arith, state c.before.before.before, c.loop-first.invariant.0.room)
 
-add-count : tie.Need-overflow_add-count invariant-loop decreases-loop
-add-count c = omega (arith, few c.before.before.before.before, (word (start c.before.before.before.before)).most_loop)
+overflow_add-count : tie.Need-overflow_add-count invariant-loop decreases-loop
+overflow_add-count c = omega (arith, few c.before.before.before.before, (word (start c.before.before.before.before)).most_loop)
 
-mul-first : tie.Need-offset_bounds-begun-place-in-loop-first invariant-loop decreases-loop
-mul-first c = omega (arith, c.if-rows-reading.false, (table (start c.before.before.before.before)).most_rows)
+offset_bounds-begun-place-in-loop-first : tie.Need-offset_bounds-begun-place-in-loop-first invariant-loop decreases-loop
+offset_bounds-begun-place-in-loop-first c = omega (arith, c.if-rows-reading.false, (table (start c.before.before.before.before)).most_rows)
 
-slice-read-first : tie.Need-bounds-begun-place-in-loop-first invariant-loop decreases-loop
-slice-read-first c = omega (arith, c.if-rows-reading.false, length-set c.loop-first.begun c.loop-first.place (c.loop-first.pass + 1), c.loop-first.invariant.0.room)
+bounds-begun-place-in-loop-first : tie.Need-bounds-begun-place-in-loop-first invariant-loop decreases-loop
+bounds-begun-place-in-loop-first c = omega (arith, c.if-rows-reading.false, length-set c.loop-first.begun c.loop-first.place (c.loop-first.pass + 1), c.loop-first.invariant.0.room)
 
-loop-less : tie.Need-loop-first-smaller invariant-loop decreases-loop
-loop-less c = omega (arith, early c.before.before.before.before)
+loop-first-smaller : tie.Need-loop-first-smaller invariant-loop decreases-loop
+loop-first-smaller c = omega (arith, early c.before.before.before.before)
 
-loop-again : tie.Need-loop-first-preserved invariant-loop decreases-loop
-loop-again c =
-    let turn = c in
-    let inv = turn.loop-first.invariant in
+loop-first-preserved : tie.Need-loop-first-preserved invariant-loop decreases-loop
+loop-first-preserved c =
+    let inv = c.loop-first.invariant in
     let read = c.read_piece-reading.ensures in
     let on = c.if-rows-reading.false in
-    (underway_next inv.0 turn.loop-first-test.true _ _ (read.0.leads on) refl, underway_kept inv.0 turn.loop-first-test.true ltb _ _ turn.loop-first.peaks inv.2 (read.1 on) inv.1, simp length-set inv.2, simp length-set inv.3, simp length-set inv.4)
+    (underway_next inv.0 c.loop-first-test.true _ _ (read.0.leads on) refl, underway_kept inv.0 c.loop-first-test.true ltb _ _ c.loop-first.peaks inv.2 (read.1 on) inv.1, simp length-set inv.2, simp length-set inv.3, simp length-set inv.4)
 
-cast-from : tie.Need-overflow_cast-from invariant-loop decreases-loop
-cast-from c = omega (arith, between c, c.loop-first.invariant.0.few, (table (start c.before)).most_rows)
+overflow_cast-from : tie.Need-overflow_cast-from invariant-loop decreases-loop
+overflow_cast-from c = omega (arith, between c, c.loop-first.invariant.0.few, (table (start c.before)).most_rows)
 
-sub-from : tie.Need-overflow_sub-from invariant-loop decreases-loop
-sub-from c = omega (arith, c.loop-first-test.false)
+overflow_sub-from : tie.Need-overflow_sub-from invariant-loop decreases-loop
+overflow_sub-from c = omega (arith, c.loop-first-test.false)
 
-sub-peak-of : tie.Need-slice_bounds-peak_of-count invariant-loop decreases-loop
-sub-peak-of c = omega (arith, between c)
+slice_bounds-peak_of-count : tie.Need-slice_bounds-peak_of-count invariant-loop decreases-loop
+slice_bounds-peak_of-count c = omega (arith, between c)
 
-part-peak-of-start : tie.Need-slice_bounds-peak_of-start invariant-loop decreases-loop
-part-peak-of-start c = omega (arith, between c, fits c)
+slice_bounds-peak_of-start : tie.Need-slice_bounds-peak_of-start invariant-loop decreases-loop
+slice_bounds-peak_of-start c = omega (arith, between c, fits c)
 
-part-peak-of-end : tie.Need-slice_bounds-peak_of-end invariant-loop decreases-loop
-part-peak-of-end c = omega (arith, between c, fits c)
+slice_bounds-peak_of-end : tie.Need-slice_bounds-peak_of-end invariant-loop decreases-loop
+slice_bounds-peak_of-end c = omega (arith, between c, fits c)
 
-same-length-3 : tie.Need-shape_of-begun-then-peak_of-eq0 invariant-loop decreases-loop
-same-length-3 c = c.loop-first.invariant.3
+shape_of-begun-then-peak_of-eq0 : tie.Need-shape_of-begun-then-peak_of-eq0 invariant-loop decreases-loop
+shape_of-begun-then-peak_of-eq0 c = c.loop-first.invariant.3
 
-same-length-4 : tie.Need-shape_of-peaks-then-peak_of-eq0 invariant-loop decreases-loop
-same-length-4 c = c.loop-first.invariant.4
+shape_of-peaks-then-peak_of-eq0 : tie.Need-shape_of-peaks-then-peak_of-eq0 invariant-loop decreases-loop
+shape_of-peaks-then-peak_of-eq0 c = c.loop-first.invariant.4
 
-returns-3 : tie.Need-returns-then-peak_of-eq0 invariant-loop decreases-loop
-returns-3 c = sym (decided c.before ∙ rw (eq-eqb _ 0 c.if-peak_of-eq0.true))
+returns-then-peak_of-eq0 : tie.Need-returns-then-peak_of-eq0 invariant-loop decreases-loop
+returns-then-peak_of-eq0 c = sym (decided c.before ∙ rw (eq-eqb _ 0 c.if-peak_of-eq0.true))
 
-same-length-5 : tie.Need-shape_of-begun invariant-loop decreases-loop
-same-length-5 c = c.loop-first.invariant.3
+shape_of-begun : tie.Need-shape_of-begun invariant-loop decreases-loop
+shape_of-begun c = c.loop-first.invariant.3
 
-same-length-6 : tie.Need-shape_of-peaks invariant-loop decreases-loop
-same-length-6 c = c.loop-first.invariant.4
+shape_of-peaks : tie.Need-shape_of-peaks invariant-loop decreases-loop
+shape_of-peaks c = c.loop-first.invariant.4
 
-returns-4 : tie.Need-returns invariant-loop decreases-loop
-returns-4 c = sym (decided c.before ∙ rw (ne_eqb _ 0 c.if-peak_of-eq0.false))
+returns : tie.Need-returns invariant-loop decreases-loop
+returns c = sym (decided c.before ∙ rw (ne_eqb _ 0 c.if-peak_of-eq0.false))
 
 pub judge_word_spec : {M : Type 1} → statement M
 judge_word_spec =
     tie.close
-    (tie.spec invariant-loop decreases-loop read-piece-requires cast-read returns loop-holds read-piece-requires-2 add_read cast-read-2 same_length same_length_2 returns_2 slice-write-peaks add-pass cast-begun mul-begun slice-write-begun add-count mul-first slice-read-first loop-less loop-again cast-from sub-from sub-peak-of part-peak-of-start part-peak-of-end (λ c κs. tt) same-length-3 same-length-4 returns-3 same-length-5 same-length-6 returns-4)
+    (tie.spec invariant-loop decreases-loop read_piece-entry-requires overflow_cast-read returns-then-rows-entry loop-first-init
+    read_piece-reading-requires overflow_add-read overflow_cast-read-then-rows-reading shape_of-begun-then-rows-reading
+    shape_of-peaks-then-rows-reading returns-then-rows-reading bounds-peaks-pass overflow_add-pass overflow_cast-begun offset_bounds-begun-place
+    bounds-begun-place overflow_add-count offset_bounds-begun-place-in-loop-first bounds-begun-place-in-loop-first loop-first-smaller
+    loop-first-preserved overflow_cast-from overflow_sub-from slice_bounds-peak_of-count slice_bounds-peak_of-start slice_bounds-peak_of-end
+    (λ c κs. tt) shape_of-begun-then-peak_of-eq0 shape_of-peaks-then-peak_of-eq0 returns-then-peak_of-eq0 shape_of-begun shape_of-peaks returns)

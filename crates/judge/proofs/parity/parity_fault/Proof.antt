@@ -17,35 +17,34 @@ use Rattle.judge.proofs.parity.parity_fault.Tie as tie
 limits : (c : tie.Else-rows-letters) → let a = c.args in (a.rows ≤ max_rows) × (a.rows * a.letters ≤ max_rows * max_letters)
 limits c = within_limits _ _ c.if-rows-letters.false
 
-returns : tie.Need-returns-then-rows-letters
-returns c = rw (parity_tests, c.if-rows-letters.true)
+returns-then-rows-letters : tie.Need-returns-then-rows-letters
+returns-then-rows-letters c = rw (parity_tests, c.if-rows-letters.true)
 
-mul-cells : tie.Need-overflow_mul-cells
-mul-cells c = omega (arith, limits c)
+overflow_mul-cells : tie.Need-overflow_mul-cells
+overflow_mul-cells c = omega (arith, limits c)
 
-returns_2 : tie.Need-returns-then-targets-cells
-returns_2 c = rw (parity_tests, c.if-rows-letters.false, c.if-targets-cells.true)
+returns-then-targets-cells : tie.Need-returns-then-targets-cells
+returns-then-targets-cells c = rw (parity_tests, c.if-rows-letters.false, c.if-targets-cells.true)
 
-slice-aggregate-bad-targets : tie.Need-slice_bounds-bad_targets-end
-slice-aggregate-bad-targets c =
+slice_bounds-bad_targets-end : tie.Need-slice_bounds-bad_targets-end
+slice_bounds-bad_targets-end c =
     let s = c.args in
     let e = or_none (ltb (length s.targets.now) (s.rows * s.letters)) _ c.if-targets-cells.false in
     sym (length-take-le _ _ (ltb-false _ _ e.0))
 
-cast-bad-targets : tie.Need-overflow_cast-rows
-cast-bad-targets c = omega (arith, limits c.before)
+overflow_cast-rows : tie.Need-overflow_cast-rows
+overflow_cast-rows c = omega (arith, limits c.before)
 
-returns-3 : tie.Need-returns-then-bad_targets
-returns-3 c =
-    let two = c in
-    rw (parity_tests, two.if-rows-letters.false, two.if-targets-cells.false, ← c.bad_targets.ensures, c.if-bad_targets.true)
+returns-then-bad_targets : tie.Need-returns-then-bad_targets
+returns-then-bad_targets c =
+    rw (parity_tests, c.if-rows-letters.false, c.if-targets-cells.false, ← c.bad_targets.ensures, c.if-bad_targets.true)
 
-returns-4 : tie.Need-returns
-returns-4 c =
-    let two = c in
-    rw (parity_tests, two.if-rows-letters.false, two.if-targets-cells.false, ← c.bad_targets.ensures, c.if-bad_targets.false)
+returns : tie.Need-returns
+returns c =
+    rw (parity_tests, c.if-rows-letters.false, c.if-targets-cells.false, ← c.bad_targets.ensures, c.if-bad_targets.false)
 
 pub parity_fault_spec : {M : Type 1} → statement M
 parity_fault_spec =
     tie.close
-    (tie.spec (λ c. search rules) returns mul-cells returns_2 slice-aggregate-bad-targets cast-bad-targets (λ c κs. search rules) returns-3 returns-4)
+    (tie.spec (λ c. search rules) returns-then-rows-letters overflow_mul-cells returns-then-targets-cells slice_bounds-bad_targets-end
+    overflow_cast-rows (λ c κs. search rules) returns-then-bad_targets returns)

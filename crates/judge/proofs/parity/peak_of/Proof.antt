@@ -17,11 +17,11 @@ invariant-loop peaks peak₀ i₀ peak i = (i ≤ length peaks) × SumsUp ltb (�
 abbrev decreases-loop : tie.decreases-loop-i
 decreases-loop peaks peak₀ i₀ peak i = length peaks - i
 
-loop-holds : tie.Need-loop-i-init invariant-loop decreases-loop
-loop-holds c = (search rules, λ k. le-ltb k 0 (omega arith))
+loop-i-init : tie.Need-loop-i-init invariant-loop decreases-loop
+loop-i-init c = (search rules, λ k. le-ltb k 0 (omega arith))
 
-loop-again : tie.Need-loop-i-preserved invariant-loop decreases-loop
-loop-again c =
+loop-i-preserved : tie.Need-loop-i-preserved invariant-loop decreases-loop
+loop-i-preserved c =
     let i = c.loop-i in
     (omega arith, λ k. ap (ltb k) c.larger-peak.ensures ∙ sums_rest ltb _ i.i i.peak i.invariant.1 max largest_joins c.loop-i-test.true k)
 
@@ -31,4 +31,5 @@ returns c = let i = c.loop-i in sums_end ltb _ i.i i.peak i.invariant.1 c.loop-i
 pub peak_of_spec : {M : Type 1} → statement M
 peak_of_spec =
     tie.close
-    (tie.spec invariant-loop decreases-loop loop-holds (λ c. search rules) (λ c κs. tt) (λ c. search rules) (λ c. omega arith) loop-again returns)
+    (tie.spec invariant-loop decreases-loop loop-i-init (λ c. search rules) (λ c κs. tt) (λ c. search rules) (λ c. omega arith) loop-i-preserved
+    returns)

@@ -28,8 +28,8 @@ invariant-loop rows letters targets priorities piece from place₀ peak₀ i₀ 
 abbrev decreases-loop : tie.decreases-loop-i
 decreases-loop rows letters targets priorities piece from place₀ peak₀ i₀ place peak i = length piece - i
 
-loop-holds : tie.Need-loop-i-init invariant-loop decreases-loop
-loop-holds c = (search rules, c.requires.2, here, λ i. le-ltb i 0 (omega arith))
+loop-i-init : tie.Need-loop-i-init invariant-loop decreases-loop
+loop-i-init c = (search rules, c.requires.2, here, λ i. le-ltb i 0 (omega arith))
 
 -- a letter is left
 module _ (c : tie.In-loop-i invariant-loop decreases-loop) where
@@ -64,55 +64,55 @@ module _ (c : tie.In-loop-i invariant-loop decreases-loop) where
   goes : system.go place letter ≡ found
   goes = get_d_any s.args.targets.now (place * s.args.letters + letter) no_row 0 (omega (arith, within, table.target_cells_lem)) ∙ sym cell_found
 
-cast-letter : tie.Need-overflow_cast-letter invariant-loop decreases-loop
-cast-letter c = omega (arith, letter_ok c.before, (table c.before).most_letters)
+overflow_cast-letter : tie.Need-overflow_cast-letter invariant-loop decreases-loop
+overflow_cast-letter c = omega (arith, letter_ok c.before, (table c.before).most_letters)
 
-mul-first : tie.Need-overflow_mul-first invariant-loop decreases-loop
-mul-first c = omega (arith, within c.before, (table c.before).most_cells)
+overflow_mul-first : tie.Need-overflow_mul-first invariant-loop decreases-loop
+overflow_mul-first c = omega (arith, within c.before, (table c.before).most_cells)
 
-mul-column : tie.Need-offset_bounds-targets-letter invariant-loop decreases-loop
-mul-column c = omega (arith, letter_ok c.before, (table c.before).most_letters)
+offset_bounds-targets-letter : tie.Need-offset_bounds-targets-letter invariant-loop decreases-loop
+offset_bounds-targets-letter c = omega (arith, letter_ok c.before, (table c.before).most_letters)
 
-sub-column : tie.Need-slice_bounds-column-count invariant-loop decreases-loop
-sub-column c = omega (arith, within c.before, (table c.before).target_cells_lem)
+slice_bounds-column-count : tie.Need-slice_bounds-column-count invariant-loop decreases-loop
+slice_bounds-column-count c = omega (arith, within c.before, (table c.before).target_cells_lem)
 
-part-column-start : tie.Need-slice_bounds-column-start invariant-loop decreases-loop
-part-column-start c = omega (arith, within c.before, (table c.before).target_cells_lem)
+slice_bounds-column-start : tie.Need-slice_bounds-column-start invariant-loop decreases-loop
+slice_bounds-column-start c = omega (arith, within c.before, (table c.before).target_cells_lem)
 
-part-column-end : tie.Need-slice_bounds-column-end invariant-loop decreases-loop
-part-column-end c = omega (arith, within c.before, (table c.before).target_cells_lem)
+slice_bounds-column-end : tie.Need-slice_bounds-column-end invariant-loop decreases-loop
+slice_bounds-column-end c = omega (arith, within c.before, (table c.before).target_cells_lem)
 
-mul-target : tie.Need-offset_bounds-column-first invariant-loop decreases-loop
-mul-target c = omega (arith, within c.before.before, (table c.before.before).most_cells)
+offset_bounds-column-first : tie.Need-offset_bounds-column-first invariant-loop decreases-loop
+offset_bounds-column-first c = omega (arith, within c.before.before, (table c.before.before).most_cells)
 
-shared-slice-read-target : tie.Need-bounds-column-first invariant-loop decreases-loop
-shared-slice-read-target c =
+bounds-column-first : tie.Need-bounds-column-first invariant-loop decreases-loop
+bounds-column-first c =
     let t = c.before.before.before in omega (arith, within t, (table t).target_cells_lem, column_long (s t).args.targets.now (letter t) (omega (arith, within t, (table t).target_cells_lem)))
 
-cast-target : tie.Need-overflow_cast-target invariant-loop decreases-loop
-cast-target c =
+overflow_cast-target : tie.Need-overflow_cast-target invariant-loop decreases-loop
+overflow_cast-target c =
     let t = c.before.before.before in omega (arith, c.shared_slice_known-in-loop-i-2-1.given (place t * (s t).args.letters))
 
-returns : tie.Need-returns-then-rows-target invariant-loop decreases-loop
-returns c =
+returns-then-rows-target : tie.Need-returns-then-rows-target invariant-loop decreases-loop
+returns-then-rows-target c =
     let t = c.before.before.before.before in
     let gone = c.if-rows-target.true in
     (record { leads = λ l. absurd (omega (arith, gone, l)); misses = λ l. read_misses (system t) _ _ _ _ t.loop-i.invariant.2 t.loop-i-test.true (letter_ok t) (subst⁻¹ (λ (z : ℕ). (s t).args.rows ≤ z) (goes t) gone) }, λ l. absurd (omega (arith, gone, l)))
 
-add-larger : tie.Need-overflow_add-first invariant-loop decreases-loop
-add-larger c = omega (arith, within c.before.before.before.before, (table c.before.before.before.before).most_cells)
+overflow_add-first : tie.Need-overflow_add-first invariant-loop decreases-loop
+overflow_add-first c = omega (arith, within c.before.before.before.before, (table c.before.before.before.before).most_cells)
 
-shared-slice-read-larger : tie.Need-bounds-priorities-first invariant-loop decreases-loop
-shared-slice-read-larger c = omega (arith, within c.before.before.before.before.before, (table c.before.before.before.before.before).priority_cells)
+bounds-priorities-first : tie.Need-bounds-priorities-first invariant-loop decreases-loop
+bounds-priorities-first c = omega (arith, within c.before.before.before.before.before, (table c.before.before.before.before.before).priority_cells)
 
-loop-again : tie.Need-loop-i-preserved invariant-loop decreases-loop
-loop-again c =
+loop-i-preserved : tie.Need-loop-i-preserved invariant-loop decreases-loop
+loop-i-preserved c =
     let t = c.before.before.before.before.before.before in
     let on = c.if-rows-target.false in
     (omega arith, on, subst (Path (system t) (s t).args.from _) (goes t) (piece_more (system t) _ _ _ _ t.loop-i.invariant.2 t.loop-i-test.true (letter_ok t) (subst⁻¹ (λ (z : ℕ). z < (s t).args.rows) (goes t) on)), λ k. ap (ltb k) c.larger-peak.ensures ∙ sums_letter (system t) _ _ _ _ t.loop-i.invariant.2 t.loop-i-test.true ltb (priority_at (s t).args.letters (s t).args.priorities.now) max largest_joins _ t.loop-i.invariant.3 k)
 
-returns_2 : tie.Need-returns invariant-loop decreases-loop
-returns_2 c =
+returns : tie.Need-returns invariant-loop decreases-loop
+returns c =
     let i = c.loop-i.invariant in
     let whole = take_all c.loop-i.i c.args.piece.now c.loop-i-test.false in
     (record { leads = λ l. rw whole at i.2; misses = λ l. absurd (omega (arith, i.1, l)) }, λ l. rw whole at i.3)
@@ -120,4 +120,6 @@ returns_2 c =
 pub read_piece_spec : {M : Type 1} → statement M
 read_piece_spec =
     tie.close
-    (tie.spec invariant-loop decreases-loop loop-holds (λ c. omega arith) cast-letter mul-first mul-column sub-column part-column-start part-column-end mul-target shared-slice-read-target cast-target returns add-larger shared-slice-read-larger (λ c κs. tt) (λ c. omega arith) (λ c. omega arith) loop-again returns_2)
+    (tie.spec invariant-loop decreases-loop loop-i-init (λ c. omega arith) overflow_cast-letter overflow_mul-first offset_bounds-targets-letter
+    slice_bounds-column-count slice_bounds-column-start slice_bounds-column-end offset_bounds-column-first bounds-column-first overflow_cast-target
+    returns-then-rows-target overflow_add-first bounds-priorities-first (λ c κs. tt) (λ c. omega arith) (λ c. omega arith) loop-i-preserved returns)

@@ -6,12 +6,11 @@ use Rattle.rules.proofs.Refusals.{parity_facts}
 use Rattle.judge.proofs.sizes.judge_large.Statement.{statement}
 use Rattle.judge.proofs.sizes.judge_large.Tie as tie
 
-judge-word-requires : tie.Need-judge_word-requires
-judge-word-requires c κs =
-    let s = c in
-    let p = s.requires in
-    let most = (parity_facts s.args.rows s.args.letters s.args.targets.now s.args.priorities.now p.0).most_rows in
+judge_word-requires : tie.Need-judge_word-requires
+judge_word-requires c κs =
+    let p = c.requires in
+    let most = (parity_facts c.args.rows c.args.letters c.args.targets.now c.args.priorities.now p.0).most_rows in
     (p.0, p.1, record { enough = most; none = zeros_at max_rows }, most)
 
 pub judge_large_spec : {M : Type 1} → statement M
-judge_large_spec = tie.close (tie.spec (λ c. search rules) (λ c. search rules) judge-word-requires (λ c. search rules))
+judge_large_spec = tie.close (tie.spec (λ c. search rules) (λ c. search rules) judge_word-requires (λ c. search rules))

@@ -5,10 +5,10 @@ use Rattle.judge.specs.Sizes.{middle_rows}
 use Rattle.judge.proofs.sizes.judge_middle.Statement.{statement}
 use Rattle.judge.proofs.sizes.judge_middle.Tie as tie
 
-judge-word-requires : tie.Need-judge_word-requires
-judge-word-requires c κs =
+judge_word-requires : tie.Need-judge_word-requires
+judge_word-requires c κs =
     let p = c.requires in
     (p.0, p.1, record { enough = p.2; none = zeros_at middle_rows }, p.2)
 
 pub judge_middle_spec : {M : Type 1} → statement M
-judge_middle_spec = tie.close (tie.spec (λ c. search rules) (λ c. search rules) judge-word-requires (λ c. search rules))
+judge_middle_spec = tie.close (tie.spec (λ c. search rules) (λ c. search rules) judge_word-requires (λ c. search rules))

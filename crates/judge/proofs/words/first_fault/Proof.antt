@@ -3,11 +3,11 @@ use Rattle.judge.proofs.Checks.{first_given}
 use Rattle.judge.proofs.words.first_fault.Statement.{statement}
 use Rattle.judge.proofs.words.first_fault.Tie as tie
 
-returns : tie.Need-returns-then-table-ne0
-returns c = first_given _ _ c.if-table-ne0.true
+returns-then-table-ne0 : tie.Need-returns-then-table-ne0
+returns-then-table-ne0 c = first_given _ _ c.if-table-ne0.true
 
-returns_2 : tie.Need-returns-else-table-ne0
-returns_2 c = rw c.if-table-ne0.false
+returns-else-table-ne0 : tie.Need-returns-else-table-ne0
+returns-else-table-ne0 c = rw c.if-table-ne0.false
 
 pub first_fault_spec : {M : Type 1} → statement M
-first_fault_spec = tie.close (tie.spec returns returns_2)
+first_fault_spec = tie.close (tie.spec returns-then-table-ne0 returns-else-table-ne0)

@@ -16,11 +16,11 @@ invariant-loop m piece stray₀ i₀ stray i = (i ≤ length piece) × (stray ||
 abbrev decreases-loop : tie.decreases-loop-i
 decreases-loop m piece stray₀ i₀ stray i = length piece - i
 
-loop-holds : tie.Need-loop-i-init invariant-loop decreases-loop
-loop-holds c = (search rules, refl)
+loop-i-init : tie.Need-loop-i-init invariant-loop decreases-loop
+loop-i-init c = (search rules, refl)
 
-loop-again : tie.Need-loop-i-preserved invariant-loop decreases-loop
-loop-again c =
+loop-i-preserved : tie.Need-loop-i-preserved invariant-loop decreases-loop
+loop-i-preserved c =
     let i = c.loop-i in
     (omega arith, any_turn _ i.stray _ i.i c.loop-i-test.true ∙ i.invariant.1)
 
@@ -28,4 +28,5 @@ returns : tie.Need-returns invariant-loop decreases-loop
 returns c = any_end _ _ _ _ c.loop-i-test.false c.loop-i.invariant.1
 
 pub has_stray_spec : {M : Type 1} → statement M
-has_stray_spec = tie.close (tie.spec invariant-loop decreases-loop loop-holds (λ c. omega arith) (λ c. omega arith) (λ c. omega arith) loop-again returns)
+has_stray_spec = tie.close
+    (tie.spec invariant-loop decreases-loop loop-i-init (λ c. omega arith) (λ c. omega arith) (λ c. omega arith) loop-i-preserved returns)

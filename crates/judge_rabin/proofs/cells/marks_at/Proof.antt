@@ -19,16 +19,21 @@ placed s = cell_placed _ _ _ s.requires
 
 returns : tie.Need-returns
 returns c =
-    let s = c in
-    let b = s.args.table.now in
-    let at = header_size + states_of b * (table_of b).letters + 2 * (s.args.state * (table_of b).letters + s.args.letter) in
+    let b = c.args.table.now in
+    let at = header_size + states_of b * (table_of b).letters + 2 * (c.args.state * (table_of b).letters + c.args.letter) in
     let low = c.shared_slice_known-4-1.given at in
-    let p : prohibited_at b s.args.state s.args.letter ≡ at = omega arith in
-    let r : required_at b s.args.state s.args.letter ≡ at + 1 = omega arith in
-    rw (prohibited_byte_lem b s.requires.0 _ _ s.requires.1 s.requires.2, required_byte_lem b s.requires.0 _ _ s.requires.1 s.requires.2, p, r)
+    let p : prohibited_at b c.args.state c.args.letter ≡ at = omega arith in
+    let r : required_at b c.args.state c.args.letter ≡ at + 1 = omega arith in
+    rw (prohibited_byte_lem b c.requires.0 _ _ c.requires.1 c.requires.2, required_byte_lem b c.requires.0 _ _ c.requires.1 c.requires.2, p, r)
     (omega (arith, c.mask_of.ensures, low), omega (arith, c.mask_of.ensures, low))
 
 pub marks_at_spec : {M : Type 1} → statement M
 marks_at_spec =
     tie.close
-    (tie.spec (λ c. omega (arith, placed c.before.before)) (λ c. omega (arith, placed c.before.before)) (λ c. omega (arith, placed c.before.before.before)) (λ c. omega (arith, placed c.before.before.before)) (λ c. omega (arith, placed c.before.before.before)) (λ c. omega (arith, placed c.before.before.before)) (λ c. omega (arith, placed c.before.before.before)) (λ c. omega (arith, placed c.before.before.before)) (λ c. omega (arith, placed c.before.before.before)) (λ c. omega (arith, placed c.before.before.before)) (λ c. omega (arith, placed c.before.before.before.before)) (λ c. omega (arith, placed c.before.before.before.before)) (λ c. omega (arith, placed c.before.before.before.before.before)) (λ c κs. search rules) returns)
+    (tie.spec (λ c. omega (arith, placed c.before.before)) (λ c. omega (arith, placed c.before.before))
+    (λ c. omega (arith, placed c.before.before.before)) (λ c. omega (arith, placed c.before.before.before))
+    (λ c. omega (arith, placed c.before.before.before)) (λ c. omega (arith, placed c.before.before.before))
+    (λ c. omega (arith, placed c.before.before.before)) (λ c. omega (arith, placed c.before.before.before))
+    (λ c. omega (arith, placed c.before.before.before)) (λ c. omega (arith, placed c.before.before.before))
+    (λ c. omega (arith, placed c.before.before.before.before)) (λ c. omega (arith, placed c.before.before.before.before))
+    (λ c. omega (arith, placed c.before.before.before.before.before)) (λ c κs. search rules) returns)

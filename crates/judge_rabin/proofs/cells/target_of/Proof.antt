@@ -22,8 +22,8 @@ placed s = cell_placed _ _ _ s.requires
 targets_long : (s : tie.Start) → let b = s.args.table.now in length (take (length b - header_size) (drop header_size b)) ≡ length b - header_size
 targets_long s = column_long s.args.table.now header_size (omega (arith, placed s))
 
-shared-slice-read-result : tie.Need-bounds-column-row
-shared-slice-read-result c =
+bounds-column-row : tie.Need-bounds-column-row
+bounds-column-row c =
     let s = c.before.before.before.before in
     let b = s.args.table.now in
     let l = column_long (take (length b - header_size) (drop header_size b)) s.args.letter (omega (arith, placed s, targets_long s)) in
@@ -42,4 +42,7 @@ returns c =
 pub target_of_spec : {M : Type 1} → statement M
 target_of_spec =
     tie.close
-    (tie.spec (λ c. omega (arith, placed c.before)) (λ c. omega (arith, placed c.before)) (λ c. omega (arith, placed c.before)) (λ c. omega (arith, placed c.before)) (λ c. search rules) (λ c. omega (arith, placed c.before.before, targets_long c.before.before)) (λ c. omega (arith, placed c.before.before, targets_long c.before.before)) (λ c. search rules) (λ c. omega (arith, placed c.before.before.before)) shared-slice-read-result (λ c. let s = c in omega (arith, c.shared_slice_known-2-1.given (s.args.state * (table_of s.args.table.now).letters))) returns)
+    (tie.spec (λ c. omega (arith, placed c.before)) (λ c. omega (arith, placed c.before)) (λ c. omega (arith, placed c.before))
+    (λ c. omega (arith, placed c.before)) (λ c. search rules) (λ c. omega (arith, placed c.before.before, targets_long c.before.before))
+    (λ c. omega (arith, placed c.before.before, targets_long c.before.before)) (λ c. search rules) (λ c. omega (arith, placed c.before.before.before))
+    bounds-column-row (λ c. omega (arith, c.shared_slice_known-2-1.given (c.args.state * (table_of c.args.table.now).letters))) returns)

@@ -98,87 +98,87 @@ decided c =
     let asked = met (required_marks t) l.loop-first.required c.union_of-asked.result (fits l).1 inv.2 c.union_of-asked.ensures in
     round_judged inv.0 l.loop-first-test.false (satisfies t) ∙ ap (λ (z : Bool). pick z accepts rejects) (union_satisfies s.args.table.now s.requires.0 (recurring (system s) t.start s.args.lead.now s.args.looped.now) c.union_of-barred.result c.union_of-asked.result c.union_of-asked.type_inv barred asked)
 
-read-piece-requires : tie.Need-read_piece-entry-requires invariant-loop decreases-loop
-read-piece-requires c κs = let s = c.before.before.before.before.before.before.before.before in (s.requires.0, (word s).lead_letters, rw c.start_of.ensures (table s).start_state)
+read_piece-entry-requires : tie.Need-read_piece-entry-requires invariant-loop decreases-loop
+read_piece-entry-requires c κs = let s = c.before.before.before.before.before.before.before.before in (s.requires.0, (word s).lead_letters, rw c.start_of.ensures (table s).start_state)
 
 -- the lead-in meets a missing transition
 missed_lead : (c : tie.Then-n-entry invariant-loop decreases-loop) → let s = c.before.before.before.before.before.before.before.before.before.before.before in MissesAfter (system s) (table_of s.args.table.now).start s.args.lead.now c.read_piece-entry.result.read
 missed_lead c =
     rw c.before.before.before.start_of.ensures at (c.read_piece-entry.ensures.0.misses (rw c.states_of-n.ensures at c.if-n-entry.true))
 
-cast-read : tie.Need-overflow_cast-read invariant-loop decreases-loop
-cast-read c = omega (arith, misses_within _ _ _ _ (missed_lead c.before), (word c.before.before.before.before.before.before.before.before.before.before.before.before).most_lead)
+overflow_cast-read : tie.Need-overflow_cast-read invariant-loop decreases-loop
+overflow_cast-read c = omega (arith, misses_within _ _ _ _ (missed_lead c.before), (word c.before.before.before.before.before.before.before.before.before.before.before.before).most_lead)
 
-returns : tie.Need-returns-then-n-entry invariant-loop decreases-loop
-returns c =
+returns-then-n-entry : tie.Need-returns-then-n-entry invariant-loop decreases-loop
+returns-then-n-entry c =
     let s = c.before.before.before.before.before.before.before.before.before.before.before.before in
     sym (misses_judged (system s) _ _ s.args.looped.now (satisfies (table_of s.args.table.now)) (table s).start_state (word s).lead_letters (word s).loop_letters _ (missed_lead c.before))
 
-loop-holds : tie.Need-loop-first-init invariant-loop decreases-loop
-loop-holds c =
+loop-first-init : tie.Need-loop-first-init invariant-loop decreases-loop
+loop-first-init c =
     let s = c.before.before.before.before.before.before.before.before.before.before.before in
     let there = rw c.states_of-n.ensures at c.if-n-entry.false in
     let path = rw c.before.before.before.start_of.ensures at (c.read_piece-entry.ensures.0.leads there) in
     (underway_entry (system s) _ _ s.args.looped.now _ s.args.begun.now path there s.requires.2, λ i h. absurd (not-suc-le-zero h), λ i h. absurd (not-suc-le-zero h), s.requires.3, s.requires.4, refl, refl, refl)
 
-read-piece-requires-2 : tie.Need-read_piece-reading-requires invariant-loop decreases-loop
-read-piece-requires-2 c κs = let s = start c.before in (s.requires.0, (word s).loop_letters, state c)
+read_piece-reading-requires : tie.Need-read_piece-reading-requires invariant-loop decreases-loop
+read_piece-reading-requires c κs = let s = start c.before in (s.requires.0, (word s).loop_letters, state c)
 
-add_read : tie.Need-overflow_add-read invariant-loop decreases-loop
-add_read c = omega (arith, counted c)
+overflow_add-read : tie.Need-overflow_add-read invariant-loop decreases-loop
+overflow_add-read c = omega (arith, counted c)
 
-cast-read-2 : tie.Need-overflow_cast-read-then-n-reading invariant-loop decreases-loop
-cast-read-2 c = omega (arith, counted c)
+overflow_cast-read-then-n-reading : tie.Need-overflow_cast-read-then-n-reading invariant-loop decreases-loop
+overflow_cast-read-then-n-reading c = omega (arith, counted c)
 
-same_length : tie.Need-shape_of-begun-then-n-reading invariant-loop decreases-loop
-same_length c = c.loop-first.invariant.5
+shape_of-begun-then-n-reading : tie.Need-shape_of-begun-then-n-reading invariant-loop decreases-loop
+shape_of-begun-then-n-reading c = c.loop-first.invariant.5
 
-same_length_2 : tie.Need-shape_of-prohibited-then-n-reading invariant-loop decreases-loop
-same_length_2 c = c.loop-first.invariant.6
+shape_of-prohibited-then-n-reading : tie.Need-shape_of-prohibited-then-n-reading invariant-loop decreases-loop
+shape_of-prohibited-then-n-reading c = c.loop-first.invariant.6
 
-same-length-3 : tie.Need-shape_of-required-then-n-reading invariant-loop decreases-loop
-same-length-3 c = c.loop-first.invariant.7
+shape_of-required-then-n-reading : tie.Need-shape_of-required-then-n-reading invariant-loop decreases-loop
+shape_of-required-then-n-reading c = c.loop-first.invariant.7
 
-returns_2 : tie.Need-returns-then-n-reading invariant-loop decreases-loop
-returns_2 c =
+returns-then-n-reading : tie.Need-returns-then-n-reading invariant-loop decreases-loop
+returns-then-n-reading c =
     let a = c.before.before.before.before.before in
     let s = start a in
     sym (underway_misses a.loop-first.invariant.0 (satisfies (table_of s.args.table.now)) (table s).start_state (word s).lead_letters (word s).loop_letters _ (c.read_piece-reading.ensures.0.misses (rw (states_are a) at c.if-n-reading.true)))
 
-slice-write-prohibited : tie.Need-bounds-prohibited-pass invariant-loop decreases-loop
-slice-write-prohibited c = omega (arith, early c.before.before.before, c.loop-first.invariant.3)
+bounds-prohibited-pass : tie.Need-bounds-prohibited-pass invariant-loop decreases-loop
+bounds-prohibited-pass c = omega (arith, early c.before.before.before, c.loop-first.invariant.3)
 
-slice-write-required : tie.Need-bounds-required-pass invariant-loop decreases-loop
-slice-write-required c = omega (arith, early c.before.before.before, c.loop-first.invariant.4)
+bounds-required-pass : tie.Need-bounds-required-pass invariant-loop decreases-loop
+bounds-required-pass c = omega (arith, early c.before.before.before, c.loop-first.invariant.4)
 
-add-pass : tie.Need-overflow_add-pass invariant-loop decreases-loop
-add-pass c = omega (arith, early c.before.before.before, table (start c.before.before.before.before))
+overflow_add-pass : tie.Need-overflow_add-pass invariant-loop decreases-loop
+overflow_add-pass c = omega (arith, early c.before.before.before, table (start c.before.before.before.before))
 
-cast-begun : tie.Need-overflow_cast-begun invariant-loop decreases-loop
-cast-begun c = omega (arith, early c.before.before.before, table (start c.before.before.before.before))
+overflow_cast-begun : tie.Need-overflow_cast-begun invariant-loop decreases-loop
+overflow_cast-begun c = omega (arith, early c.before.before.before, table (start c.before.before.before.before))
 
-mul-begun : tie.Need-offset_bounds-begun-place invariant-loop decreases-loop
-mul-begun c = omega (arith, state c.before.before.before, table (start c.before.before.before.before))
+offset_bounds-begun-place : tie.Need-offset_bounds-begun-place invariant-loop decreases-loop
+offset_bounds-begun-place c = omega (arith, state c.before.before.before, table (start c.before.before.before.before))
 
-slice-write-begun : tie.Need-bounds-begun-place invariant-loop decreases-loop
-slice-write-begun c = omega (arith, state c.before.before.before, c.loop-first.invariant.0.room)
+bounds-begun-place : tie.Need-bounds-begun-place invariant-loop decreases-loop
+bounds-begun-place c = omega (arith, state c.before.before.before, c.loop-first.invariant.0.room)
 
-add-count : tie.Need-overflow_add-count invariant-loop decreases-loop
-add-count c = omega (arith, few c.before.before.before.before, (word (start c.before.before.before.before)).most_loop)
+overflow_add-count : tie.Need-overflow_add-count invariant-loop decreases-loop
+overflow_add-count c = omega (arith, few c.before.before.before.before, (word (start c.before.before.before.before)).most_loop)
 
-mul-first : tie.Need-offset_bounds-begun-place-in-loop-first invariant-loop decreases-loop
-mul-first c = let a = c.before.before.before.before in omega (arith, states_are a, c.if-n-reading.false, table (start a))
+offset_bounds-begun-place-in-loop-first : tie.Need-offset_bounds-begun-place-in-loop-first invariant-loop decreases-loop
+offset_bounds-begun-place-in-loop-first c = let a = c.before.before.before.before in omega (arith, states_are a, c.if-n-reading.false, table (start a))
 
-slice-read-first : tie.Need-bounds-begun-place-in-loop-first invariant-loop decreases-loop
-slice-read-first c =
+bounds-begun-place-in-loop-first : tie.Need-bounds-begun-place-in-loop-first invariant-loop decreases-loop
+bounds-begun-place-in-loop-first c =
     let a = c.before.before.before.before.before in
     omega (arith, states_are a, c.if-n-reading.false, length-set a.loop-first.begun a.loop-first.place (a.loop-first.pass + 1), a.loop-first.invariant.0.room)
 
-loop-less : tie.Need-loop-first-smaller invariant-loop decreases-loop
-loop-less c = let t = c.before.before.before.before in omega (arith, states_are t.before, early t)
+loop-first-smaller : tie.Need-loop-first-smaller invariant-loop decreases-loop
+loop-first-smaller c = let t = c.before.before.before.before in omega (arith, states_are t.before, early t)
 
-loop-again : tie.Need-loop-first-preserved invariant-loop decreases-loop
-loop-again c =
+loop-first-preserved : tie.Need-loop-first-preserved invariant-loop decreases-loop
+loop-first-preserved c =
     let turn = c.before.before.before.before in
     let inv = turn.loop-first.invariant in
     let read = c.read_piece-reading.ensures in
@@ -186,55 +186,62 @@ loop-again c =
     let noted = underway_kept inv.0 turn.loop-first-test.true bit in
     (underway_next inv.0 turn.loop-first-test.true _ _ (read.0.leads on) refl, noted _ _ turn.loop-first.prohibited inv.3 (read.1 on) inv.1, noted _ _ turn.loop-first.required inv.4 (read.2 on) inv.2, simp length-set inv.3, simp length-set inv.4, simp length-set inv.5, simp length-set inv.6, simp length-set inv.7)
 
-cast-from : tie.Need-overflow_cast-from invariant-loop decreases-loop
-cast-from c = omega (arith, between c, c.loop-first.invariant.0.few, table (start c.before))
+overflow_cast-from : tie.Need-overflow_cast-from invariant-loop decreases-loop
+overflow_cast-from c = omega (arith, between c, c.loop-first.invariant.0.few, table (start c.before))
 
-sub-from : tie.Need-overflow_sub-from invariant-loop decreases-loop
-sub-from c = omega (arith, c.loop-first-test.false)
+overflow_sub-from : tie.Need-overflow_sub-from invariant-loop decreases-loop
+overflow_sub-from c = omega (arith, c.loop-first-test.false)
 
-sub-union-of : tie.Need-slice_bounds-union_of-count invariant-loop decreases-loop
-sub-union-of c = omega (arith, between c)
+slice_bounds-union_of-count : tie.Need-slice_bounds-union_of-count invariant-loop decreases-loop
+slice_bounds-union_of-count c = omega (arith, between c)
 
-part-union-of-start : tie.Need-slice_bounds-union_of-start invariant-loop decreases-loop
-part-union-of-start c = omega (arith, between c, fits c)
+slice_bounds-union_of-start : tie.Need-slice_bounds-union_of-start invariant-loop decreases-loop
+slice_bounds-union_of-start c = omega (arith, between c, fits c)
 
-part-union-of-end : tie.Need-slice_bounds-union_of-end invariant-loop decreases-loop
-part-union-of-end c = omega (arith, between c, fits c)
+slice_bounds-union_of-end : tie.Need-slice_bounds-union_of-end invariant-loop decreases-loop
+slice_bounds-union_of-end c = omega (arith, between c, fits c)
 
-sub-union-of-2 : tie.Need-slice_bounds-union_of-count-2 invariant-loop decreases-loop
-sub-union-of-2 c = omega (arith, between c.before.before)
+slice_bounds-union_of-count-2 : tie.Need-slice_bounds-union_of-count-2 invariant-loop decreases-loop
+slice_bounds-union_of-count-2 c = omega (arith, between c.before.before)
 
-part-union-of-start-2 : tie.Need-slice_bounds-union_of-start-2 invariant-loop decreases-loop
-part-union-of-start-2 c = omega (arith, between c.before.before, fits c.before.before)
+slice_bounds-union_of-start-2 : tie.Need-slice_bounds-union_of-start-2 invariant-loop decreases-loop
+slice_bounds-union_of-start-2 c = omega (arith, between c.before.before, fits c.before.before)
 
-part-union-of-end-2 : tie.Need-slice_bounds-union_of-end-2 invariant-loop decreases-loop
-part-union-of-end-2 c = omega (arith, between c.before.before, fits c.before.before)
+slice_bounds-union_of-end-2 : tie.Need-slice_bounds-union_of-end-2 invariant-loop decreases-loop
+slice_bounds-union_of-end-2 c = omega (arith, between c.before.before, fits c.before.before)
 
-same-length-4 : tie.Need-shape_of-begun-then-asked-barred invariant-loop decreases-loop
-same-length-4 c = c.loop-first.invariant.5
+shape_of-begun-then-asked-barred : tie.Need-shape_of-begun-then-asked-barred invariant-loop decreases-loop
+shape_of-begun-then-asked-barred c = c.loop-first.invariant.5
 
-same-length-5 : tie.Need-shape_of-prohibited-then-asked-barred invariant-loop decreases-loop
-same-length-5 c = c.loop-first.invariant.6
+shape_of-prohibited-then-asked-barred : tie.Need-shape_of-prohibited-then-asked-barred invariant-loop decreases-loop
+shape_of-prohibited-then-asked-barred c = c.loop-first.invariant.6
 
-same-length-6 : tie.Need-shape_of-required-then-asked-barred invariant-loop decreases-loop
-same-length-6 c = c.loop-first.invariant.7
+shape_of-required-then-asked-barred : tie.Need-shape_of-required-then-asked-barred invariant-loop decreases-loop
+shape_of-required-then-asked-barred c = c.loop-first.invariant.7
 
-returns-3 : tie.Need-returns-then-asked-barred invariant-loop decreases-loop
-returns-3 c = sym (decided c.before ∙ rw (eq-eqb _ _ c.if-asked-barred.true))
+returns-then-asked-barred : tie.Need-returns-then-asked-barred invariant-loop decreases-loop
+returns-then-asked-barred c = sym (decided c.before ∙ rw (eq-eqb _ _ c.if-asked-barred.true))
 
-same-length-7 : tie.Need-shape_of-begun invariant-loop decreases-loop
-same-length-7 c = c.loop-first.invariant.5
+shape_of-begun : tie.Need-shape_of-begun invariant-loop decreases-loop
+shape_of-begun c = c.loop-first.invariant.5
 
-same-length-8 : tie.Need-shape_of-prohibited invariant-loop decreases-loop
-same-length-8 c = c.loop-first.invariant.6
+shape_of-prohibited : tie.Need-shape_of-prohibited invariant-loop decreases-loop
+shape_of-prohibited c = c.loop-first.invariant.6
 
-same-length-9 : tie.Need-shape_of-required invariant-loop decreases-loop
-same-length-9 c = c.loop-first.invariant.7
+shape_of-required : tie.Need-shape_of-required invariant-loop decreases-loop
+shape_of-required c = c.loop-first.invariant.7
 
-returns-4 : tie.Need-returns invariant-loop decreases-loop
-returns-4 c = sym (decided c.before ∙ rw (ne_eqb _ _ c.if-asked-barred.false))
+returns : tie.Need-returns invariant-loop decreases-loop
+returns c = sym (decided c.before ∙ rw (ne_eqb _ _ c.if-asked-barred.false))
 
 pub judge_word_spec : {M : Type 1} → statement M
 judge_word_spec =
     tie.close
-    (tie.spec invariant-loop decreases-loop (λ c κs. c.requires.0) (λ c κs. c.requires.0) read-piece-requires cast-read returns loop-holds read-piece-requires-2 add_read cast-read-2 same_length same_length_2 same-length-3 returns_2 slice-write-prohibited slice-write-required add-pass cast-begun mul-begun slice-write-begun add-count mul-first slice-read-first loop-less loop-again cast-from sub-from sub-union-of part-union-of-start part-union-of-end (λ c κs. tt) sub-union-of-2 part-union-of-start-2 part-union-of-end-2 (λ c κs. tt) same-length-4 same-length-5 same-length-6 returns-3 same-length-7 same-length-8 same-length-9 returns-4)
+    (tie.spec invariant-loop decreases-loop (λ c κs. c.requires.0) (λ c κs. c.requires.0) read_piece-entry-requires overflow_cast-read
+    returns-then-n-entry loop-first-init read_piece-reading-requires overflow_add-read overflow_cast-read-then-n-reading shape_of-begun-then-n-reading
+    shape_of-prohibited-then-n-reading shape_of-required-then-n-reading returns-then-n-reading bounds-prohibited-pass bounds-required-pass
+    overflow_add-pass overflow_cast-begun offset_bounds-begun-place bounds-begun-place overflow_add-count offset_bounds-begun-place-in-loop-first
+    bounds-begun-place-in-loop-first loop-first-smaller loop-first-preserved overflow_cast-from overflow_sub-from slice_bounds-union_of-count
+    slice_bounds-union_of-start slice_bounds-union_of-end (λ c κs. tt) slice_bounds-union_of-count-2 slice_bounds-union_of-start-2
+    slice_bounds-union_of-end-2 (λ c κs. tt) shape_of-begun-then-asked-barred shape_of-prohibited-then-asked-barred
+    shape_of-required-then-asked-barred returns-then-asked-barred shape_of-begun shape_of-prohibited shape_of-required returns)

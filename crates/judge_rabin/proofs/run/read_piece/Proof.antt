@@ -68,14 +68,14 @@ module _ (c : tie.In-loop-i invariant-loop decreases-loop) where
     leads : x < s.states → Path s start.args.from (take (i + 1) piece) x
     leads h = rw e (piece_more s start.args.from piece i place path c.loop-i-test.true letter_known (rw e at h))
 
-returns : tie.Need-returns-then-n-target invariant-loop decreases-loop
-returns c =
+returns-then-n-target : tie.Need-returns-then-n-target invariant-loop decreases-loop
+returns-then-n-target c =
     let n = c.states_of-n.ensures in
     let t = c.target_of-target.ensures in
     (record { leads = λ h. absurd (omega (arith, n, c.if-n-target.true)); misses = misses c.before.before.before _ t }, λ h. absurd (omega (arith, n, c.if-n-target.true)), λ h. absurd (omega (arith, n, c.if-n-target.true)))
 
-loop-again : tie.Need-loop-i-preserved invariant-loop decreases-loop
-loop-again c =
+loop-i-preserved : tie.Need-loop-i-preserved invariant-loop decreases-loop
+loop-i-preserved c =
     let x = c.before.before.before.before in
     let inv = c.loop-i.invariant in
     let w = c.loop-i.union in
@@ -89,14 +89,17 @@ loop-again c =
       rw (or_shr w v 8) (meets x (required_marks (table_of (start x).args.table.now)) (w / 256) (v / 256) marks.1 inv.4),
     )
 
-returns_2 : tie.Need-returns invariant-loop decreases-loop
-returns_2 c =
-    let s = c in
+returns : tie.Need-returns invariant-loop decreases-loop
+returns c =
     let i = c.loop-i in
-    let r = rw (take_all i.i s.args.piece.now c.loop-i-test.false) at i.invariant in
-    (record { leads = λ h. r.1; misses = λ h. absurd (omega (arith, h, path_below (system_in s.args.table.now) s.requires.2 r.1)) }, λ h. r.3, λ h. r.4)
+    let r = rw (take_all i.i c.args.piece.now c.loop-i-test.false) at i.invariant in
+    (record { leads = λ h. r.1; misses = λ h. absurd (omega (arith, h, path_below (system_in c.args.table.now) c.requires.2 r.1)) }, λ h. r.3, λ h. r.4)
 
 pub read_piece_spec : {M : Type 1} → statement M
 read_piece_spec =
     tie.close
-    (tie.spec invariant-loop decreases-loop (λ c κs. c.requires.0) (λ c. (omega arith, here, omega arith, bit_none, bit_none)) (λ c. c.loop-i-test.true) (λ c. omega (arith, letter_known c.before, table_facts _ c.requires.0)) (λ c κs. (c.requires.0, place_below c.before, letter_known c.before)) returns (λ c κs. (c.requires.0, place_below c.before.before.before, letter_known c.before.before.before)) (λ c. omega arith) (λ c. omega arith) loop-again (λ c. omega arith) (λ c. omega (arith, c.loop-i.invariant.2)) returns_2)
+    (tie.spec invariant-loop decreases-loop (λ c κs. c.requires.0) (λ c. (omega arith, here, omega arith, bit_none, bit_none))
+    (λ c. c.loop-i-test.true) (λ c. omega (arith, letter_known c.before, table_facts _ c.requires.0))
+    (λ c κs. (c.requires.0, place_below c.before, letter_known c.before)) returns-then-n-target
+    (λ c κs. (c.requires.0, place_below c.before.before.before, letter_known c.before.before.before)) (λ c. omega arith) (λ c. omega arith)
+    loop-i-preserved (λ c. omega arith) (λ c. omega (arith, c.loop-i.invariant.2)) returns)

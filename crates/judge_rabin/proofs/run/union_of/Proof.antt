@@ -16,11 +16,11 @@ invariant-loop sets union₀ i₀ union i = (i ≤ length sets) × SumsUp bit (�
 abbrev decreases-loop : tie.decreases-loop-i
 decreases-loop sets union₀ i₀ union i = length sets - i
 
-loop-holds : tie.Need-loop-i-init invariant-loop decreases-loop
-loop-holds c = (omega arith, bit_none)
+loop-i-init : tie.Need-loop-i-init invariant-loop decreases-loop
+loop-i-init c = (omega arith, bit_none)
 
-loop-again : tie.Need-loop-i-preserved invariant-loop decreases-loop
-loop-again c =
+loop-i-preserved : tie.Need-loop-i-preserved invariant-loop decreases-loop
+loop-i-preserved c =
     let i = c.loop-i in
     (omega arith, sums_rest bit _ i.i i.union i.invariant.1 bit_or union_joins c.loop-i-test.true)
 
@@ -28,4 +28,5 @@ returns : tie.Need-returns invariant-loop decreases-loop
 returns c = let i = c.loop-i in sums_end bit _ i.i i.union i.invariant.1 c.loop-i-test.false
 
 pub union_of_spec : {M : Type 1} → statement M
-union_of_spec = tie.close (tie.spec invariant-loop decreases-loop loop-holds (λ c. omega arith) (λ c. omega arith) (λ c. omega arith) loop-again returns)
+union_of_spec = tie.close
+    (tie.spec invariant-loop decreases-loop loop-i-init (λ c. omega arith) (λ c. omega arith) (λ c. omega arith) loop-i-preserved returns)

@@ -36,31 +36,32 @@ returns c =
     wrote_both (row_written state).put_field-after_row.ensures (wrote_both state.put_field-after_state.ensures (wrote_both number.put_optional-after_record.ensures (wrote_both letter.put_field-after_letter.ensures (wrote_both target.put_optional-after_target.ensures c.put_optional.ensures))))
 
 -- each field is in reach, as the line is
-put-field-requires : tie.Need-put_field-after_row-requires
+put_field-after_row-requires : tie.Need-put_field-after_row-requires
 unfolding line
-put-field-requires c κs = record { ends = omega (arith, simp length-append at c.requires.ends) }
+put_field-after_row-requires c κs = record { ends = omega (arith, simp length-append at c.requires.ends) }
 
-put-field-requires-2 : tie.Need-put_field-after_state-requires
+put_field-after_state-requires : tie.Need-put_field-after_state-requires
 unfolding line
-put-field-requires-2 c κs = record { ends = omega (arith, simp length-append at (start c.before.before.before).requires.ends) }
+put_field-after_state-requires c κs = record { ends = omega (arith, simp length-append at (start c.before.before.before).requires.ends) }
 
-put-optional-requires : tie.Need-put_optional-after_record-requires
+put_optional-after_record-requires : tie.Need-put_optional-after_record-requires
 unfolding line
-put-optional-requires c κs = record { ends = omega (arith, simp length-append at (start (row_written c.before.before.before)).requires.ends) }
+put_optional-after_record-requires c κs = record { ends = omega (arith, simp length-append at (start (row_written c.before.before.before)).requires.ends) }
 
-put-field-requires-3 : tie.Need-put_field-after_letter-requires
+put_field-after_letter-requires : tie.Need-put_field-after_letter-requires
 unfolding line
-put-field-requires-3 c κs = record { ends = omega (arith, simp length-append at (start (row_written (state_written c.before.before.before))).requires.ends) }
+put_field-after_letter-requires c κs = record { ends = omega (arith, simp length-append at (start (row_written (state_written c.before.before.before))).requires.ends) }
 
-put-optional-requires-2 : tie.Need-put_optional-after_target-requires
+put_optional-after_target-requires : tie.Need-put_optional-after_target-requires
 unfolding line
-put-optional-requires-2 c κs = record { ends = omega (arith, simp length-append at (start (row_written (state_written (record_written c.before.before.before)))).requires.ends) }
+put_optional-after_target-requires c κs = record { ends = omega (arith, simp length-append at (start (row_written (state_written (record_written c.before.before.before)))).requires.ends) }
 
-put-optional-requires-3 : tie.Need-put_optional-requires
+put_optional-requires : tie.Need-put_optional-requires
 unfolding line
-put-optional-requires-3 c κs = record { ends = omega (arith, simp length-append at (start (row_written (state_written (record_written (letter_written c.before.before.before))))).requires.ends) }
+put_optional-requires c κs = record { ends = omega (arith, simp length-append at (start (row_written (state_written (record_written (letter_written c.before.before.before))))).requires.ends) }
 
 pub put_line_spec : {M : Type 1} → statement M
 put_line_spec =
     tie.close
-    (tie.spec put-field-requires put-field-requires-2 put-optional-requires put-field-requires-3 put-optional-requires-2 put-optional-requires-3 (λ c. search rules) returns)
+    (tie.spec put_field-after_row-requires put_field-after_state-requires put_optional-after_record-requires put_field-after_letter-requires
+    put_optional-after_target-requires put_optional-requires (λ c. search rules) returns)

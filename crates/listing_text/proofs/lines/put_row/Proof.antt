@@ -18,30 +18,27 @@ invariant-loop out₀ at m row state number targets priorities next₀ a₀ out 
 abbrev decreases-loop : tie.decreases-loop-a
 decreases-loop out₀ at m row state number targets priorities next₀ a₀ out next a = m - a
 
-loop-holds : tie.Need-loop-a-init invariant-loop decreases-loop
+loop-a-init : tie.Need-loop-a-init invariant-loop decreases-loop
 unfolding each
-loop-holds c = (omega arith, wrote_none _ _)
+loop-a-init c = (omega arith, wrote_none _ _)
 
-mul-put-line : tie.Need-offset_bounds-targets-cell invariant-loop decreases-loop
-mul-put-line c =
-    let s = c in
-    omega (arith, row_ends max_rows s.args.m s.args.row s.requires.2)
+offset_bounds-targets-cell : tie.Need-offset_bounds-targets-cell invariant-loop decreases-loop
+offset_bounds-targets-cell c =
+    omega (arith, row_ends max_rows c.args.m c.args.row c.requires.2)
 
-put-line-requires : tie.Need-put_line-next-requires invariant-loop decreases-loop
+put_line-next-requires : tie.Need-put_line-next-requires invariant-loop decreases-loop
 unfolding row_lines
-put-line-requires c κs =
-    let s = c in
-    let text = line_at s.args.m s.args.targets.now s.args.priorities.now s.args.row s.args.state s.args.number in
-    reach_next text s.requires.0 c.loop-a-test.true c.loop-a.invariant.1
+put_line-next-requires c κs =
+    let text = line_at c.args.m c.args.targets.now c.args.priorities.now c.args.row c.args.state c.args.number in
+    reach_next text c.requires.0 c.loop-a-test.true c.loop-a.invariant.1
 
-loop-again : tie.Need-loop-a-preserved invariant-loop decreases-loop
-loop-again c =
-    let s = c in
-    let text = line_at s.args.m s.args.targets.now s.args.priorities.now s.args.row s.args.state s.args.number in
+loop-a-preserved : tie.Need-loop-a-preserved invariant-loop decreases-loop
+loop-a-preserved c =
+    let text = line_at c.args.m c.args.targets.now c.args.priorities.now c.args.row c.args.state c.args.number in
     (omega arith, wrote_next text c.loop-a.invariant.1 c.put_line-next.ensures)
 
-same_length : tie.Need-shape_of-out invariant-loop decreases-loop
-same_length c = wrote_length c.loop-a.invariant.1
+shape_of-out : tie.Need-shape_of-out invariant-loop decreases-loop
+shape_of-out c = wrote_length c.loop-a.invariant.1
 
 returns : tie.Need-returns invariant-loop decreases-loop
 unfolding row_lines
@@ -50,4 +47,6 @@ returns c = rw (le_antisymm c.loop-a.invariant.0 c.loop-a-test.false) at c.loop-
 pub put_row_spec : {M : Type 1} → statement M
 put_row_spec =
     tie.close
-    (tie.spec invariant-loop decreases-loop loop-holds (λ c. omega arith) (λ c. omega arith) (λ c. omega arith) (λ c. omega arith) mul-put-line (λ c. omega arith) (λ c. omega arith) put-line-requires (λ c. omega arith) (λ c. omega arith) loop-again same_length returns)
+    (tie.spec invariant-loop decreases-loop loop-a-init (λ c. omega arith) (λ c. omega arith) (λ c. omega arith) (λ c. omega arith)
+    offset_bounds-targets-cell (λ c. omega arith) (λ c. omega arith) put_line-next-requires (λ c. omega arith) (λ c. omega arith) loop-a-preserved
+    shape_of-out returns)

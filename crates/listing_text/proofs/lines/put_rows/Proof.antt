@@ -17,27 +17,25 @@ invariant-loop out₀ at n m targets priorities sources records next₀ i₀ out
 abbrev decreases-loop : tie.decreases-loop-i
 decreases-loop out₀ at n m targets priorities sources records next₀ i₀ out next i = n - i
 
-loop-holds : tie.Need-loop-i-init invariant-loop decreases-loop
+loop-i-init : tie.Need-loop-i-init invariant-loop decreases-loop
 unfolding each
-loop-holds c = (omega arith, wrote_none _ _)
+loop-i-init c = (omega arith, wrote_none _ _)
 
-put-row-requires : tie.Need-put_row-next-requires invariant-loop decreases-loop
+put_row-next-requires : tie.Need-put_row-next-requires invariant-loop decreases-loop
 unfolding lines
-put-row-requires c κs =
-    let s = c in
+put_row-next-requires c κs =
     let test = c.loop-i-test.true in
-    let ends = row_ends _ s.args.m _ test in
-    let text = lines_at s.args.m s.args.targets.now s.args.priorities.now s.args.sources.now s.args.records.now in
-    (reach_next text s.requires.0 test c.loop-i.invariant.1, s.requires.1.most_letters, omega arith, omega arith, omega arith)
+    let ends = row_ends _ c.args.m _ test in
+    let text = lines_at c.args.m c.args.targets.now c.args.priorities.now c.args.sources.now c.args.records.now in
+    (reach_next text c.requires.0 test c.loop-i.invariant.1, c.requires.1.most_letters, omega arith, omega arith, omega arith)
 
-loop-again : tie.Need-loop-i-preserved invariant-loop decreases-loop
-loop-again c =
-    let s = c in
-    let text = lines_at s.args.m s.args.targets.now s.args.priorities.now s.args.sources.now s.args.records.now in
+loop-i-preserved : tie.Need-loop-i-preserved invariant-loop decreases-loop
+loop-i-preserved c =
+    let text = lines_at c.args.m c.args.targets.now c.args.priorities.now c.args.sources.now c.args.records.now in
     (omega arith, wrote_next text c.loop-i.invariant.1 c.put_row-next.ensures)
 
-same_length : tie.Need-shape_of-out invariant-loop decreases-loop
-same_length c = wrote_length c.loop-i.invariant.1
+shape_of-out : tie.Need-shape_of-out invariant-loop decreases-loop
+shape_of-out c = wrote_length c.loop-i.invariant.1
 
 returns : tie.Need-returns invariant-loop decreases-loop
 unfolding lines
@@ -46,4 +44,5 @@ returns c = rw (le_antisymm c.loop-i.invariant.0 c.loop-i-test.false) at c.loop-
 pub put_rows_spec : {M : Type 1} → statement M
 put_rows_spec =
     tie.close
-    (tie.spec invariant-loop decreases-loop loop-holds (λ c. omega arith) (λ c. omega arith) (λ c. omega arith) put-row-requires (λ c. omega arith) (λ c. omega arith) loop-again same_length returns)
+    (tie.spec invariant-loop decreases-loop loop-i-init (λ c. omega arith) (λ c. omega arith) (λ c. omega arith) put_row-next-requires
+    (λ c. omega arith) (λ c. omega arith) loop-i-preserved shape_of-out returns)

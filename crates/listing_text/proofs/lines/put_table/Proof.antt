@@ -28,28 +28,29 @@ returns c =
     c.put_rows.ensures
 
 -- each part is in reach, as the whole is
-cast-put-field : tie.Need-overflow_cast-n
-cast-put-field c = search rules
+overflow_cast-n : tie.Need-overflow_cast-n
+overflow_cast-n c = search rules
 
-put-field-requires : tie.Need-put_field-after_rows-requires
+put_field-after_rows-requires : tie.Need-put_field-after_rows-requires
 unfolding head
-put-field-requires c κs = record { ends = omega (arith, simp length-append at c.requires.0.ends) }
+put_field-after_rows-requires c κs = record { ends = omega (arith, simp length-append at c.requires.0.ends) }
 
-put-field-requires-2 : tie.Need-put_field-after_letters-requires
+put_field-after_letters-requires : tie.Need-put_field-after_letters-requires
 unfolding head
-put-field-requires-2 c κs = record { ends = omega (arith, simp length-append at (start c.before.before.before).requires.0.ends) }
+put_field-after_letters-requires c κs = record { ends = omega (arith, simp length-append at (start c.before.before.before).requires.0.ends) }
 
-put-field-requires-3 : tie.Need-put_field-first_row-requires
+put_field-first_row-requires : tie.Need-put_field-first_row-requires
 unfolding head
-put-field-requires-3 c κs = record { ends = omega (arith, simp length-append at (start (rows_written c.before.before.before)).requires.0.ends) }
+put_field-first_row-requires c κs = record { ends = omega (arith, simp length-append at (start (rows_written c.before.before.before)).requires.0.ends) }
 
-put-rows-requires : tie.Need-put_rows-requires
+put_rows-requires : tie.Need-put_rows-requires
 unfolding head
-put-rows-requires c κs =
+put_rows-requires c κs =
     let s = start (rows_written (letters_written c.before.before.before)) in
     (record { ends = omega (arith, simp length-append at s.requires.0.ends) }, s.requires.1)
 
 pub put_table_spec : {M : Type 1} → statement M
 put_table_spec =
     tie.close
-    (tie.spec cast-put-field put-field-requires (λ c. search rules) put-field-requires-2 put-field-requires-3 put-rows-requires (λ c. search rules) returns)
+    (tie.spec overflow_cast-n put_field-after_rows-requires (λ c. search rules) put_field-after_letters-requires put_field-first_row-requires
+    put_rows-requires (λ c. search rules) returns)

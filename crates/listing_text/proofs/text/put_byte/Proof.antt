@@ -14,8 +14,8 @@ returns c =
       next = refl;
     }
 
-same_length : tie.Need-shape_of-out
-same_length c = wrote_length (returns c)
+shape_of-out : tie.Need-shape_of-out
+shape_of-out c = wrote_length (returns c)
 
 pub put_byte_spec : {M : Type 1} → statement M
-put_byte_spec = tie.close (tie.spec (λ c. search rules) (λ c. search rules) same_length returns)
+put_byte_spec = tie.close (tie.spec (λ c. search rules) (λ c. search rules) shape_of-out returns)

@@ -15,17 +15,17 @@ invariant-loop out₀ at bytes next₀ i₀ out next i = (i ≤ length bytes) ×
 abbrev decreases-loop : tie.decreases-loop-i
 decreases-loop out₀ at bytes next₀ i₀ out next i = length bytes - i
 
-loop-holds : tie.Need-loop-i-init invariant-loop decreases-loop
-loop-holds c = (omega arith, wrote_none _ _)
+loop-i-init : tie.Need-loop-i-init invariant-loop decreases-loop
+loop-i-init c = (omega arith, wrote_none _ _)
 
-put_byte_requires : tie.Need-put_byte-next-requires invariant-loop decreases-loop
-put_byte_requires c κs = reach_next_byte _ c.requires c.loop-i-test.true c.loop-i.invariant.1
+put_byte-next-requires : tie.Need-put_byte-next-requires invariant-loop decreases-loop
+put_byte-next-requires c κs = reach_next_byte _ c.requires c.loop-i-test.true c.loop-i.invariant.1
 
-loop-again : tie.Need-loop-i-preserved invariant-loop decreases-loop
-loop-again c = (omega arith, wrote_next_byte _ c.loop-i-test.true c.loop-i.invariant.1 c.put_byte-next.ensures)
+loop-i-preserved : tie.Need-loop-i-preserved invariant-loop decreases-loop
+loop-i-preserved c = (omega arith, wrote_next_byte _ c.loop-i-test.true c.loop-i.invariant.1 c.put_byte-next.ensures)
 
-same_length : tie.Need-shape_of-out invariant-loop decreases-loop
-same_length c = wrote_length c.loop-i.invariant.1
+shape_of-out : tie.Need-shape_of-out invariant-loop decreases-loop
+shape_of-out c = wrote_length c.loop-i.invariant.1
 
 returns : tie.Need-returns invariant-loop decreases-loop
 returns c = rw (take_all _ _ c.loop-i-test.false) at c.loop-i.invariant.1
@@ -33,4 +33,5 @@ returns c = rw (take_all _ _ c.loop-i-test.false) at c.loop-i.invariant.1
 pub put_bytes_spec : {M : Type 1} → statement M
 put_bytes_spec =
     tie.close
-    (tie.spec invariant-loop decreases-loop loop-holds (λ c. search rules) put_byte_requires (λ c. search rules) (λ c. search rules) loop-again same_length returns)
+    (tie.spec invariant-loop decreases-loop loop-i-init (λ c. search rules) put_byte-next-requires (λ c. search rules) (λ c. search rules)
+    loop-i-preserved shape_of-out returns)

@@ -7,27 +7,27 @@ use Rattle.listing_text.proofs.Writing.{wrote_both, reach_first, reach_then}
 use Rattle.listing_text.proofs.text.put_optional.Statement.{statement}
 use Rattle.listing_text.proofs.text.put_optional.Tie as tie
 
-put_byte_requires : tie.Need-put_byte-next-requires
+put_byte-next-requires : tie.Need-put_byte-next-requires
 unfolding optional
-put_byte_requires c κs = reach_first (dash ∷ []) _ (rw c.if-none.true at c.requires)
+put_byte-next-requires c κs = reach_first (dash ∷ []) _ (rw c.if-none.true at c.requires)
 
-put_byte_requires_2 : tie.Need-put_byte-requires
+put_byte-requires : tie.Need-put_byte-requires
 unfolding optional
-put_byte_requires_2 c κs = reach_then _ (rw c.if-none.true at c.requires) c.put_byte-next.ensures
+put_byte-requires c κs = reach_then _ (rw c.if-none.true at c.requires) c.put_byte-next.ensures
 
-returns : tie.Need-returns-then-none
+returns-then-none : tie.Need-returns-then-none
 unfolding optional
-returns c = rw c.if-none.true (wrote_both c.put_byte-next.ensures c.put_byte.ensures)
+returns-then-none c = rw c.if-none.true (wrote_both c.put_byte-next.ensures c.put_byte.ensures)
 
-put-field-requires : tie.Need-put_field-requires
+put_field-requires : tie.Need-put_field-requires
 unfolding field optional
-put-field-requires c κs = rw c.if-none.false at c.requires
+put_field-requires c κs = rw c.if-none.false at c.requires
 
-returns_2 : tie.Need-returns
+returns : tie.Need-returns
 unfolding field optional
-returns_2 c = rw c.if-none.false c.put_field.ensures
+returns c = rw c.if-none.false c.put_field.ensures
 
 pub put_optional_spec : {M : Type 1} → statement M
 put_optional_spec =
     tie.close
-    (tie.spec put_byte_requires put_byte_requires_2 (λ c. search rules) returns put-field-requires (λ c. search rules) returns_2)
+    (tie.spec put_byte-next-requires put_byte-requires (λ c. search rules) returns-then-none put_field-requires (λ c. search rules) returns)

@@ -15,19 +15,19 @@ invariant-loop self mask code₀ p₀ code p = (p ≤ 6) × (code ≡ packed (ke
 abbrev decreases-loop : tie.decreases-loop-p
 decreases-loop self mask code₀ p₀ code p = p
 
-loop-holds : tie.Need-loop-p-init invariant-loop decreases-loop
-loop-holds c = (omega arith, refl)
+loop-p-init : tie.Need-loop-p-init invariant-loop decreases-loop
+loop-p-init c = (omega arith, refl)
 
-with-pair-requires : tie.Need-with_pair-code-requires invariant-loop decreases-loop
-with-pair-requires c κs =
+with_pair-code-requires : tie.Need-with_pair-code-requires invariant-loop decreases-loop
+with_pair-code-requires c κs =
     let s = c.before.before.before.before.args in
     let turn = c.before.before.before.loop-p in (
       omega (arith, kept_below (is_marked s.mask) (places s.self.code) turn.p 5 (omega arith) (places_below 6 s.self.code)),
       omega (arith, c.before.pair_at-pair.ensures, pair_below 6 s.self.code turn.p),
     )
 
-loop-again : tie.Need-loop-p-preserved invariant-loop decreases-loop
-loop-again c =
+loop-p-preserved : tie.Need-loop-p-preserved invariant-loop decreases-loop
+loop-p-preserved c =
     let s = c.before.before.before.before.before.args in
     let turn = c.before.before.before.before.loop-p in
     let pair = c.before.before.pair_at-pair in
@@ -45,4 +45,5 @@ returns c =
 pub front_spec : {M : Type 1} → statement M
 front_spec =
     tie.close
-    (tie.spec invariant-loop decreases-loop loop-holds (λ c κs. tt) (λ c κs. tt) with-pair-requires (λ c. omega arith) (λ c. omega arith) loop-again returns)
+    (tie.spec invariant-loop decreases-loop loop-p-init (λ c κs. tt) (λ c κs. tt) with_pair-code-requires (λ c. omega arith) (λ c. omega arith)
+    loop-p-preserved returns)

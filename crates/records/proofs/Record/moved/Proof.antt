@@ -15,10 +15,10 @@ joined c =
     let s = c.before.before.args in
     moved_joined (is_marked s.mask) (places s.self.code) c.before.front-front.result c.rear-rear.result c.before.front-front.ensures c.rear-rear.ensures
 
-add-t5 : tie.Need-overflow_add-result
-add-t5 c =
+overflow_add-result : tie.Need-overflow_add-result
+overflow_add-result c =
     let s = c.before.before.args in
     omega (arith, joined c, moved_small (is_marked s.mask) (places s.self.code) 6 (places_below 6 s.self.code) (omega arith))
 
 pub moved_spec : {M : Type 1} → statement M
-moved_spec = tie.close (tie.spec (λ c κs. search rules) (λ c κs. search rules) add-t5 joined)
+moved_spec = tie.close (tie.spec (λ c κs. search rules) (λ c κs. search rules) overflow_add-result joined)

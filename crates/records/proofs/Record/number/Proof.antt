@@ -22,17 +22,17 @@ invariant-loop self number₀ p₀ number p =
 abbrev decreases-loop : tie.decreases-loop-p
 decreases-loop self number₀ p₀ number p = 7 - p
 
-loop-holds : tie.Need-loop-p-init invariant-loop decreases-loop
-loop-holds c = (omega arith, refl)
+loop-p-init : tie.Need-loop-p-init invariant-loop decreases-loop
+loop-p-init c = (omega arith, refl)
 
-with-digit-requires : tie.Need-with_digit-number-requires invariant-loop decreases-loop
-with-digit-requires c κs =
+with_digit-number-requires : tie.Need-with_digit-number-requires invariant-loop decreases-loop
+with_digit-number-requires c κs =
     let p : ℕ = c.before.before.loop-p.p in
     let w : ℕ = c.before.before.before.args.self.code in
     (omega (arith, pow-le-pow_right {n = 10} (lit< tt) {i = p} {j = 6} (omega arith)), omega (arith, c.pair_at.ensures, pair_below 6 w p))
 
-loop-again : tie.Need-loop-p-preserved invariant-loop decreases-loop
-loop-again c =
+loop-p-preserved : tie.Need-loop-p-preserved invariant-loop decreases-loop
+loop-p-preserved c =
     let w : ℕ = c.before.before.before.before.args.self.code in
     let turn = c.before.before.before.loop-p in
     let p : ℕ = turn.p in
@@ -50,4 +50,5 @@ returns c =
 pub number_spec : {M : Type 1} → statement M
 number_spec =
     tie.close
-    (tie.spec invariant-loop decreases-loop loop-holds (λ c κs. tt) with-digit-requires (λ c. omega arith) (λ c. omega arith) loop-again returns)
+    (tie.spec invariant-loop decreases-loop loop-p-init (λ c κs. tt) with_digit-number-requires (λ c. omega arith) (λ c. omega arith) loop-p-preserved
+    returns)

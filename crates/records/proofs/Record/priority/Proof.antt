@@ -19,8 +19,8 @@ invariant-loop self prohibited required best₀ p₀ best p =
 abbrev decreases-loop : tie.decreases-loop-p
 decreases-loop self prohibited required best₀ p₀ best p = 7 - p
 
-loop-again : tie.Need-loop-p-preserved invariant-loop decreases-loop
-loop-again c =
+loop-p-preserved : tie.Need-loop-p-preserved invariant-loop decreases-loop
+loop-p-preserved c =
     let s = c.before.before.before.before.before.before.args in
     let turn = c.before.before.before.before.before.loop-p in
     let m : Marks = marks_by s.prohibited s.required in
@@ -40,5 +40,5 @@ returns c =
 pub priority_spec : {M : Type 1} → statement M
 priority_spec =
     tie.close
-    (tie.spec invariant-loop decreases-loop (λ c. refl) (λ c κs. tt) (λ c κs. tt) (λ c κs. tt) (λ c κs. omega arith) (λ c. omega arith) (λ c. omega arith)
-    loop-again returns)
+    (tie.spec invariant-loop decreases-loop (λ c. refl) (λ c κs. tt) (λ c κs. tt) (λ c κs. tt) (λ c κs. omega arith) (λ c. omega arith)
+    (λ c. omega arith) loop-p-preserved returns)

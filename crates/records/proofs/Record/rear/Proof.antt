@@ -27,14 +27,14 @@ decreases-loop self mask code₀ p₀ code p = 7 - p
 pair_small : (c : tie.After-pair_at-pair invariant-loop decreases-loop) → c.pair_at-pair.result.0 < 8
 pair_small c = omega (arith, c.pair_at-pair.ensures, pair_below 6 c.before.before.before.args.self.code c.before.before.loop-p.p)
 
-loop-holds : tie.Need-loop-p-init invariant-loop decreases-loop
-loop-holds c = (omega arith, refl)
+loop-p-init : tie.Need-loop-p-init invariant-loop decreases-loop
+loop-p-init c = (omega arith, refl)
 
-with-last-requires : tie.Need-with_last-code-requires invariant-loop decreases-loop
-with-last-requires c κs = (c.before.before.before.loop-p.invariant.0, pair_small c.before)
+with_last-code-requires : tie.Need-with_last-code-requires invariant-loop decreases-loop
+with_last-code-requires c κs = (c.before.before.before.loop-p.invariant.0, pair_small c.before)
 
-loop-again : tie.Need-loop-p-preserved invariant-loop decreases-loop
-loop-again c =
+loop-p-preserved : tie.Need-loop-p-preserved invariant-loop decreases-loop
+loop-p-preserved c =
     let s = c.before.before.before.before.before.args in
     let turn = c.before.before.before.before.loop-p in
     let pair = c.before.before.pair_at-pair in
@@ -55,4 +55,5 @@ returns c =
 pub rear_spec : {M : Type 1} → statement M
 rear_spec =
     tie.close
-    (tie.spec invariant-loop decreases-loop loop-holds (λ c κs. tt) (λ c κs. tt) with-last-requires (λ c. omega arith) (λ c. omega arith) loop-again returns)
+    (tie.spec invariant-loop decreases-loop loop-p-init (λ c κs. tt) (λ c κs. tt) with_last-code-requires (λ c. omega arith) (λ c. omega arith)
+    loop-p-preserved returns)

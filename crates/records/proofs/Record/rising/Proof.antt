@@ -20,16 +20,16 @@ invariant-loop mask code₀ i₀ code i = (i ≤ 6) × (code ≡ packed (keep (i
 abbrev decreases-loop : tie.decreases-loop-i
 decreases-loop mask code₀ i₀ code i = i
 
-loop-holds : tie.Need-loop-i-init invariant-loop decreases-loop
-loop-holds c = (omega arith, refl)
+loop-i-init : tie.Need-loop-i-init invariant-loop decreases-loop
+loop-i-init c = (omega arith, refl)
 
-with-pair-requires : tie.Need-with_pair-code-requires invariant-loop decreases-loop
-with-pair-requires c κs =
+with_pair-code-requires : tie.Need-with_pair-code-requires invariant-loop decreases-loop
+with_pair-code-requires c κs =
     let b = is_marked c.before.before.before.args.mask in
     (omega (arith, kept_below b all c.before.before.loop-i.i 5 (omega arith) (rising_below 6 1 (omega arith))), omega arith)
 
-loop-again : tie.Need-loop-i-preserved invariant-loop decreases-loop
-loop-again c =
+loop-i-preserved : tie.Need-loop-i-preserved invariant-loop decreases-loop
+loop-i-preserved c =
     let turn = c.before.before.before.loop-i in
     let i : ℕ = turn.i in
     let is-in = c.before.is_in in (
@@ -43,4 +43,6 @@ returns c =
     c.before.loop-i.invariant.1 ∙ ap (λ (i : ℕ). packed (keep (is_marked c.before.before.args.mask) (drop i all))) none
 
 pub rising_spec : {M : Type 1} → statement M
-rising_spec = tie.close (tie.spec invariant-loop decreases-loop loop-holds (λ c κs. tt) with-pair-requires (λ c. omega arith) (λ c. omega arith) loop-again returns)
+rising_spec = tie.close
+    (tie.spec invariant-loop decreases-loop loop-i-init (λ c κs. tt) with_pair-code-requires (λ c. omega arith) (λ c. omega arith) loop-i-preserved
+    returns)

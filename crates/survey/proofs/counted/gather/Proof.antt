@@ -15,20 +15,19 @@ invariant-loop n m targets marks homes sets₀ all q₀ sets q = (q ≤ n) × (l
 abbrev decreases-loop : tie.decreases-loop-q
 decreases-loop n m targets marks homes sets₀ all q₀ sets q = n - q
 
-required-somewhere-requires : tie.Need-required_somewhere-all-requires invariant-loop decreases-loop
-required-somewhere-requires c κs = c.requires.0.mark_room
+required_somewhere-all-requires : tie.Need-required_somewhere-all-requires invariant-loop decreases-loop
+required_somewhere-all-requires c κs = c.requires.0.mark_room
 
-loop-holds : tie.Need-loop-q-init invariant-loop decreases-loop
-loop-holds c = (omega arith, refl, c.requires.2)
+loop-q-init : tie.Need-loop-q-init invariant-loop decreases-loop
+loop-q-init c = (omega arith, refl, c.requires.2)
 
-gather-state-requires : tie.Need-gather_state-requires invariant-loop decreases-loop
-gather-state-requires c κs =
-    let s = c in
+gather_state-requires : tie.Need-gather_state-requires invariant-loop decreases-loop
+gather_state-requires c κs =
     let i = c.loop-q.invariant in
-    (s.requires.0, rw i.1 s.requires.1, c.loop-q-test.true, c.required_somewhere-all.ensures, i.2)
+    (c.requires.0, rw i.1 c.requires.1, c.loop-q-test.true, c.required_somewhere-all.ensures, i.2)
 
-loop-again : tie.Need-loop-q-preserved invariant-loop decreases-loop
-loop-again c =
+loop-q-preserved : tie.Need-loop-q-preserved invariant-loop decreases-loop
+loop-q-preserved c =
     let i = c.loop-q.invariant in
     let g = c.gather_state in
     (omega (arith, c.loop-q-test.true), g.auto.sets ∙ i.1, g.ensures)
@@ -41,4 +40,5 @@ returns c =
 pub gather_spec : {M : Type 1} → statement M
 gather_spec =
     tie.close
-    (tie.spec invariant-loop decreases-loop (λ c. search rules) required-somewhere-requires loop-holds gather-state-requires (λ c. search rules) (λ c. search rules) loop-again (λ c. c.loop-q.invariant.1) returns)
+    (tie.spec invariant-loop decreases-loop (λ c. search rules) required_somewhere-all-requires loop-q-init gather_state-requires (λ c. search rules)
+    (λ c. search rules) loop-q-preserved (λ c. c.loop-q.invariant.1) returns)

@@ -17,30 +17,30 @@ module _ (s : tie.Start) where
   place : home < s.args.n → home < length s.args.sets.now
   place l = omega (arith, s.requires.1)
 
-shared-slice-read-home : tie.Need-bounds-homes-q
-shared-slice-read-home c = let s = c in omega (arith, s.requires.2, s.requires.0.home_room)
+bounds-homes-q : tie.Need-bounds-homes-q
+bounds-homes-q c = omega (arith, c.requires.2, c.requires.0.home_room)
 
-returns : tie.Need-returns-then-n-home
+returns-then-n-home : tie.Need-returns-then-n-home
+returns-then-n-home c =
+    gathered_past _ _ _ _ _ _ c.args.q _ c.requires.4 c.if-n-home.true
+
+returns-then-sets-home : tie.Need-returns-then-sets-home
+returns-then-sets-home c =
+    let a = c.args in
+    gathered_full _ _ _ _ _ _ a.q _ c.requires.4 a.all c.if-sets-home.true
+    (λ i b l h. c.requires.3 (cell a.m a.q b) i (cell_within a.n a.m a.q b c.requires.2 l) h)
+
+pairs_of_state-requires : tie.Need-pairs_of_state-requires
+pairs_of_state-requires c κs = (c.requires.0, c.requires.2)
+
+returns : tie.Need-returns
 returns c =
-    let s = c in
-    gathered_past _ _ _ _ _ _ s.args.q _ s.requires.4 c.if-n-home.true
-
-returns_2 : tie.Need-returns-then-sets-home
-returns_2 c =
-    let s = c in
-    let a = s.args in
-    gathered_full _ _ _ _ _ _ a.q _ s.requires.4 a.all c.if-sets-home.true
-    (λ i b l h. s.requires.3 (cell a.m a.q b) i (cell_within a.n a.m a.q b s.requires.2 l) h)
-
-pairs-of-state-requires : tie.Need-pairs_of_state-requires
-pairs-of-state-requires c κs = let s = c in (s.requires.0, s.requires.2)
-
-returns-3 : tie.Need-returns
-returns-3 c =
-    let s = c in
-    gathered_more _ _ _ _ _ _ s.args.q _ s.requires.4 c.pairs_of_state.result c.if-n-home.false s.requires.1 c.pairs_of_state.ensures (omega arith)
+    gathered_more _ _ _ _ _ _ c.args.q _ c.requires.4 c.pairs_of_state.result c.if-n-home.false c.requires.1 c.pairs_of_state.ensures (omega arith)
 
 pub gather_state_spec : {M : Type 1} → statement M
 gather_state_spec =
     tie.close
-    (tie.spec (λ c. search rules) shared-slice-read-home (λ c. omega (arith, c.shared_slice_known-4-1.given c.args.q)) returns (λ c. place c.before.before.before.before.before.before.before c.if-n-home.false) returns_2 (λ c. place c.before.before.before.before.before.before.before.before.before c.if-n-home.false) pairs-of-state-requires (λ c. place c.before.before.before.before.before.before.before.before.before.before c.if-n-home.false) (λ c. search rules) returns-3)
+    (tie.spec (λ c. search rules) bounds-homes-q (λ c. omega (arith, c.shared_slice_known-4-1.given c.args.q)) returns-then-n-home
+    (λ c. place c.before.before.before.before.before.before.before c.if-n-home.false) returns-then-sets-home
+    (λ c. place c.before.before.before.before.before.before.before.before.before c.if-n-home.false) pairs_of_state-requires
+    (λ c. place c.before.before.before.before.before.before.before.before.before.before c.if-n-home.false) (λ c. search rules) returns)

@@ -30,35 +30,35 @@ module _ (c : tie.In-loop-a invariant-loop decreases-loop) where
   here : place < start.args.n * start.args.m
   here = cell_within _ _ start.args.q c.loop-a.a start.requires.1 c.loop-a-test.true
 
-mul-first : tie.Need-overflow_mul-first invariant-loop decreases-loop
-mul-first c = let s = c in omega (arith, row_within s.args.n s.args.m s.args.q s.requires.1, s.requires.0.target_room)
+overflow_mul-first : tie.Need-overflow_mul-first invariant-loop decreases-loop
+overflow_mul-first c = omega (arith, row_within c.args.n c.args.m c.args.q c.requires.1, c.requires.0.target_room)
 
-shared-slice-read-home : tie.Need-bounds-homes-q invariant-loop decreases-loop
-shared-slice-read-home c = let s = c in omega (arith, s.requires.1, s.requires.0.home_room)
+bounds-homes-q : tie.Need-bounds-homes-q invariant-loop decreases-loop
+bounds-homes-q c = omega (arith, c.requires.1, c.requires.0.home_room)
 
-add-is-home : tie.Need-overflow_add-first invariant-loop decreases-loop
-add-is-home c = let u = here (c) in let r = c.requires.0.target_room in omega arith
+overflow_add-first : tie.Need-overflow_add-first invariant-loop decreases-loop
+overflow_add-first c = let u = here (c) in let r = c.requires.0.target_room in omega arith
 
-mul-is-home : tie.Need-offset_bounds-targets-first invariant-loop decreases-loop
-mul-is-home c = let u = here (c) in let r = c.requires.0.target_room in omega arith
+offset_bounds-targets-first : tie.Need-offset_bounds-targets-first invariant-loop decreases-loop
+offset_bounds-targets-first c = let u = here (c) in let r = c.requires.0.target_room in omega arith
 
-shared-slice-read-is-home : tie.Need-bounds-targets-first invariant-loop decreases-loop
-shared-slice-read-is-home c = let u = here c.before in let r = c.requires.0.target_room in omega arith
+bounds-targets-first : tie.Need-bounds-targets-first invariant-loop decreases-loop
+bounds-targets-first c = let u = here c.before in let r = c.requires.0.target_room in omega arith
 
-is-home-requires : tie.Need-is_home-stays-requires invariant-loop decreases-loop
-is-home-requires c κs = c.requires.0.home_room
+is_home-stays-requires : tie.Need-is_home-stays-requires invariant-loop decreases-loop
+is_home-stays-requires c κs = c.requires.0.home_room
 
-add_kept : tie.Need-overflow_add-first-in-loop-a invariant-loop decreases-loop
-add_kept c = let u = here c.before.before in let r = c.requires.0.mark_room in omega arith
+overflow_add-first-in-loop-a : tie.Need-overflow_add-first-in-loop-a invariant-loop decreases-loop
+overflow_add-first-in-loop-a c = let u = here c.before.before in let r = c.requires.0.mark_room in omega arith
 
-mul-kept : tie.Need-offset_bounds-marks-first invariant-loop decreases-loop
-mul-kept c = let u = here c.before.before in let r = c.requires.0.mark_room in omega arith
+offset_bounds-marks-first : tie.Need-offset_bounds-marks-first invariant-loop decreases-loop
+offset_bounds-marks-first c = let u = here c.before.before in let r = c.requires.0.mark_room in omega arith
 
-shared-slice-read-kept : tie.Need-bounds-marks-first invariant-loop decreases-loop
-shared-slice-read-kept c = let u = here c.before.before.before in let r = c.requires.0.mark_room in omega arith
+bounds-marks-first : tie.Need-bounds-marks-first invariant-loop decreases-loop
+bounds-marks-first c = let u = here c.before.before.before in let r = c.requires.0.mark_room in omega arith
 
-loop-again : tie.Need-loop-a-preserved invariant-loop decreases-loop
-loop-again c =
+loop-a-preserved : tie.Need-loop-a-preserved invariant-loop decreases-loop
+loop-a-preserved c =
     let u : tie.In-loop-a invariant-loop decreases-loop = c.before.before.before.before in
     let s = start u in
     let i = u.loop-a in
@@ -75,4 +75,6 @@ returns c =
 pub pairs_of_state_spec : {M : Type 1} → statement M
 pairs_of_state_spec =
     tie.close
-    (tie.spec invariant-loop decreases-loop mul-first (λ c. search rules) shared-slice-read-home (λ c. (omega arith, bit_none)) add-is-home mul-is-home shared-slice-read-is-home is-home-requires add_kept mul-kept shared-slice-read-kept (λ c κs. search rules) (λ c. search rules) (λ c. search rules) loop-again returns)
+    (tie.spec invariant-loop decreases-loop overflow_mul-first (λ c. search rules) bounds-homes-q (λ c. (omega arith, bit_none)) overflow_add-first
+    offset_bounds-targets-first bounds-targets-first is_home-stays-requires overflow_add-first-in-loop-a offset_bounds-marks-first bounds-marks-first
+    (λ c κs. search rules) (λ c. search rules) (λ c. search rules) loop-a-preserved returns)

@@ -14,8 +14,8 @@ invariant-loop marks cells all₀ c₀ all c = (c ≤ cells) × RequiredBelow ma
 abbrev decreases-loop : tie.decreases-loop-c
 decreases-loop marks cells all₀ c₀ all c = cells - c
 
-loop-again : tie.Need-loop-c-preserved invariant-loop decreases-loop
-loop-again x =
+loop-c-preserved : tie.Need-loop-c-preserved invariant-loop decreases-loop
+loop-c-preserved x =
     let i = x.loop-c in
     (omega arith, rw x.kept-all.ensures (required_more x.args.marks.now i.c i.all i.invariant.1))
 
@@ -25,4 +25,5 @@ returns x = rw (le_antisymm x.loop-c.invariant.0 x.loop-c-test.false) at x.loop-
 pub required_somewhere_spec : {M : Type 1} → statement M
 required_somewhere_spec =
     tie.close
-    (tie.spec invariant-loop decreases-loop (λ c. (omega arith, required_none c.args.marks.now)) (λ c. search rules) (λ c. search rules) (λ c κs. search rules) (λ c. search rules) (λ c. search rules) loop-again returns)
+    (tie.spec invariant-loop decreases-loop (λ c. (omega arith, required_none c.args.marks.now)) (λ c. search rules) (λ c. search rules)
+    (λ c κs. search rules) (λ c. search rules) (λ c. search rules) loop-c-preserved returns)

@@ -4,11 +4,11 @@ use borrow.Author.Tests.{lt-ltb, le-ltb}
 use Rattle.survey.proofs.counted.set_of.Statement.{statement}
 use Rattle.survey.proofs.counted.set_of.Tie as tie
 
-returns : tie.Need-returns-then-home-n
-returns c = let a = c.args in rw (lt-ltb a.home a.n c.if-home-n.true)
+returns-then-home-n : tie.Need-returns-then-home-n
+returns-then-home-n c = let a = c.args in rw (lt-ltb a.home a.n c.if-home-n.true)
 
-returns_2 : tie.Need-returns-else-home-n
-returns_2 c = let a = c.args in rw (le-ltb a.home a.n c.if-home-n.false)
+returns-else-home-n : tie.Need-returns-else-home-n
+returns-else-home-n c = let a = c.args in rw (le-ltb a.home a.n c.if-home-n.false)
 
 pub set_of_spec : {M : Type 1} → statement M
-set_of_spec = tie.close (tie.spec (λ c. omega (arith, c.if-home-n.true)) returns returns_2)
+set_of_spec = tie.close (tie.spec (λ c. omega (arith, c.if-home-n.true)) returns-then-home-n returns-else-home-n)

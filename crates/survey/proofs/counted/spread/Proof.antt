@@ -17,8 +17,8 @@ invariant-loop homes sets n out₀ q₀ out q = (q ≤ n) × Filled (λ i v. v �
 abbrev decreases-loop : tie.decreases-loop-q
 decreases-loop homes sets n out₀ q₀ out q = n - q
 
-loop-again : tie.Need-loop-q-preserved invariant-loop decreases-loop
-loop-again c =
+loop-q-preserved : tie.Need-loop-q-preserved invariant-loop decreases-loop
+loop-q-preserved c =
     let i = c.loop-q in
     (omega arith, filled_more _ _ _ i.q _ (omega arith) c.set_of.ensures i.invariant.1)
 
@@ -30,4 +30,5 @@ returns c =
 pub spread_spec : {M : Type 1} → statement M
 spread_spec =
     tie.close
-    (tie.spec invariant-loop decreases-loop (λ c. (omega arith, filled_none _ _)) (λ c. search rules) (λ c. search rules) (λ c κs. search rules) (λ c. omega (arith, c.loop-q.invariant.1.size)) (λ c. search rules) (λ c. search rules) loop-again (λ c. c.loop-q.invariant.1.size) returns)
+    (tie.spec invariant-loop decreases-loop (λ c. (omega arith, filled_none _ _)) (λ c. search rules) (λ c. search rules) (λ c κs. search rules)
+    (λ c. omega (arith, c.loop-q.invariant.1.size)) (λ c. search rules) (λ c. search rules) loop-q-preserved (λ c. c.loop-q.invariant.1.size) returns)

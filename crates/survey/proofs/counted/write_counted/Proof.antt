@@ -28,18 +28,15 @@ home_entry n m ts ms hs sets g q =
 
 gather-requires : tie.Need-gather-requires
 gather-requires c κs =
-    let s = c in
-    (s.requires.0, s.requires.0.few_states, gathered_none _ _ _ _ _ pair_bits _ (zeros_at 64))
+    (c.requires.0, c.requires.0.few_states, gathered_none _ _ _ _ _ pair_bits _ (zeros_at 64))
 
 spread-requires : tie.Need-spread-requires
 spread-requires c κs =
-    let s = c in
-    (s.requires.0.home_room, rw c.gather.auto.sets s.requires.0.few_states, s.requires.1)
+    (c.requires.0.home_room, rw c.gather.auto.sets c.requires.0.few_states, c.requires.1)
 
 returns : tie.Need-returns
 returns c =
-    let s = c in
-    let a = s.args in
+    let a = c.args in
     let g = c.gather in
     let same = tabulate_same _ (gathered_in a.n a.m a.targets.now a.marks.now a.homes.now) a.n 0 (λ q l u. home_entry a.n a.m a.targets.now a.marks.now a.homes.now g.new.sets g.ensures q) in
     c.spread.ensures ∙ ap (λ (xs : List ℕ). over xs a.out.now) same

@@ -9,9 +9,8 @@ use Rattle.survey.proofs.homes.find_homes_from.Tie as tie
 
 returns : tie.Need-returns
 returns c =
-    let s = c in
     let f = c.find_components_from.ensures in
-    rw (f.answer ∙ and_both _ _ (homes_fit _ _ _ _ s.requires.0 s.requires.1 s.requires.2 s.requires.3) (lt-ltb _ _ s.requires.4)) at f.array
+    rw (f.answer ∙ and_both _ _ (homes_fit _ _ _ _ c.requires.0 c.requires.1 c.requires.2 c.requires.3) (lt-ltb _ _ c.requires.4)) at f.array
 
 pub find_homes_from_spec : {M : Type 1} → statement M
 find_homes_from_spec = tie.close (tie.spec (λ c. search rules) (λ c κs. search rules) (λ c. search rules) returns)

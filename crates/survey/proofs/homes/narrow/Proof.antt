@@ -15,11 +15,11 @@ invariant-loop numbers n out₀ q₀ out q = (q ≤ n) × Filled (λ i v. v ≡ 
 abbrev decreases-loop : tie.decreases-loop-q
 decreases-loop numbers n out₀ q₀ out q = n - q
 
-cast-out : tie.Need-overflow_cast-out invariant-loop decreases-loop
-cast-out c = omega (arith, c.requires.2 c.loop-q.q c.loop-q-test.true)
+overflow_cast-out : tie.Need-overflow_cast-out invariant-loop decreases-loop
+overflow_cast-out c = omega (arith, c.requires.2 c.loop-q.q c.loop-q-test.true)
 
-loop-again : tie.Need-loop-q-preserved invariant-loop decreases-loop
-loop-again c =
+loop-q-preserved : tie.Need-loop-q-preserved invariant-loop decreases-loop
+loop-q-preserved c =
     let i = c.loop-q in
     (omega arith, filled_more _ _ _ i.q _ (omega arith) refl i.invariant.1)
 
@@ -31,4 +31,5 @@ returns c =
 pub narrow_spec : {M : Type 1} → statement M
 narrow_spec =
     tie.close
-    (tie.spec invariant-loop decreases-loop (λ c. (omega arith, filled_none _ _)) (λ c. search rules) (λ c. search rules) cast-out (λ c. omega (arith, c.loop-q.invariant.1.size)) (λ c. search rules) (λ c. search rules) loop-again (λ c. c.loop-q.invariant.1.size) returns)
+    (tie.spec invariant-loop decreases-loop (λ c. (omega arith, filled_none _ _)) (λ c. search rules) (λ c. search rules) overflow_cast-out
+    (λ c. omega (arith, c.loop-q.invariant.1.size)) (λ c. search rules) (λ c. search rules) loop-q-preserved (λ c. c.loop-q.invariant.1.size) returns)

@@ -16,11 +16,11 @@ invariant-loop bytes cells marks₀ c₀ marks c = (c ≤ cells) × Filled (λ i
 abbrev decreases-loop : tie.decreases-loop-c
 decreases-loop bytes cells marks₀ c₀ marks c = cells - c
 
-slice-write-marks : tie.Need-bounds-marks-c invariant-loop decreases-loop
-slice-write-marks c = omega (arith, c.loop-c.invariant.1.size)
+bounds-marks-c : tie.Need-bounds-marks-c invariant-loop decreases-loop
+bounds-marks-c c = omega (arith, c.loop-c.invariant.1.size)
 
-loop-again : tie.Need-loop-c-preserved invariant-loop decreases-loop
-loop-again c =
+loop-c-preserved : tie.Need-loop-c-preserved invariant-loop decreases-loop
+loop-c-preserved c =
     let i = c.loop-c in
     (omega arith, filled_more _ _ _ i.c _ (omega arith) (rw (add-one (2 * i.c)) at c.mask_of.ensures) i.invariant.1)
 
@@ -32,4 +32,6 @@ returns c =
 pub lay_marks_spec : {M : Type 1} → statement M
 lay_marks_spec =
     tie.close
-    (tie.spec invariant-loop decreases-loop (λ c. (omega arith, filled_none _ _)) (λ c. search rules) (λ c. search rules) (λ c. search rules) (λ c. search rules) (λ c. search rules) (λ c κs. search rules) (λ c. search rules) slice-write-marks (λ c. search rules) (λ c. search rules) loop-again (λ c. c.loop-c.invariant.1.size) returns)
+    (tie.spec invariant-loop decreases-loop (λ c. (omega arith, filled_none _ _)) (λ c. search rules) (λ c. search rules) (λ c. search rules)
+    (λ c. search rules) (λ c. search rules) (λ c κs. search rules) (λ c. search rules) bounds-marks-c (λ c. search rules) (λ c. search rules)
+    loop-c-preserved (λ c. c.loop-c.invariant.1.size) returns)

@@ -16,8 +16,8 @@ invariant-loop bytes targets₀ c₀ targets c = (c ≤ length bytes) × Filled 
 abbrev decreases-loop : tie.decreases-loop-c
 decreases-loop bytes targets₀ c₀ targets c = length bytes - c
 
-loop-again : tie.Need-loop-c-preserved invariant-loop decreases-loop
-loop-again c =
+loop-c-preserved : tie.Need-loop-c-preserved invariant-loop decreases-loop
+loop-c-preserved c =
     let i = c.loop-c in
     (omega arith, filled_more _ _ _ i.c _ (omega arith) c.wide_target.ensures i.invariant.1)
 
@@ -29,4 +29,5 @@ returns c =
 pub lay_targets_spec : {M : Type 1} → statement M
 lay_targets_spec =
     tie.close
-    (tie.spec invariant-loop decreases-loop (λ c. (omega arith, filled_none _ _)) (λ c. search rules) (λ c κs. search rules) (λ c. search rules) (λ c. omega (arith, c.loop-c.invariant.1.size)) (λ c. search rules) (λ c. search rules) loop-again (λ c. c.loop-c.invariant.1.size) returns)
+    (tie.spec invariant-loop decreases-loop (λ c. (omega arith, filled_none _ _)) (λ c. search rules) (λ c κs. search rules) (λ c. search rules)
+    (λ c. omega (arith, c.loop-c.invariant.1.size)) (λ c. search rules) (λ c. search rules) loop-c-preserved (λ c. c.loop-c.invariant.1.size) returns)

@@ -26,20 +26,20 @@ invariant-loop targets marks k high above bad₀ c₀ bad c =
 abbrev decreases-loop : tie.decreases-loop-c
 decreases-loop targets marks k high above bad₀ c₀ bad c = length targets - c
 
-sub-high : tie.Need-overflow_sub-high invariant-loop decreases-loop
-sub-high c = let s = c.before.before in omega (arith, top s.args.k s.requires.1)
+overflow_sub-high : tie.Need-overflow_sub-high invariant-loop decreases-loop
+overflow_sub-high c = let s = c.before.before in omega (arith, top s.args.k s.requires.1)
 
-mul-above : tie.Need-overflow_mul-above invariant-loop decreases-loop
-mul-above c = let s = c.before.before in omega (arith, top s.args.k s.requires.1)
+overflow_mul-above : tie.Need-overflow_mul-above invariant-loop decreases-loop
+overflow_mul-above c = let s = c.before.before in omega (arith, top s.args.k s.requires.1)
 
-add-above : tie.Need-overflow_add-above invariant-loop decreases-loop
-add-above c = let s = c.before.before in omega (arith, top s.args.k s.requires.1)
+overflow_add-above : tie.Need-overflow_add-above invariant-loop decreases-loop
+overflow_add-above c = let s = c.before.before in omega (arith, top s.args.k s.requires.1)
 
-loop-holds : tie.Need-loop-c-init invariant-loop decreases-loop
-loop-holds c = (search rules, refl)
+loop-c-init : tie.Need-loop-c-init invariant-loop decreases-loop
+loop-c-init c = (search rules, refl)
 
-loop-again : tie.Need-loop-c-preserved invariant-loop decreases-loop
-loop-again c =
+loop-c-preserved : tie.Need-loop-c-preserved invariant-loop decreases-loop
+loop-c-preserved c =
     let s = c.before.before.before.before.before.before.before.before.before in
     let i = c.before.before.before.before.before.before.loop-c in
     let k = s.args.k in
@@ -59,6 +59,6 @@ returns c = marks_end _ _ _ _ _ c.loop-c-test.false c.before.loop-c.invariant.1
 pub bad_marks_spec : {M : Type 1} → statement M
 bad_marks_spec =
     tie.close
-    (tie.spec invariant-loop decreases-loop (λ c. omega arith) sub-high mul-above add-above loop-holds (λ c. omega arith) (λ c. omega arith) (λ c. omega arith)
-    (λ c. omega arith) (λ c. omega arith) (λ c κs. search rules) (λ c. omega arith) (λ c κs. search rules) (λ c. omega arith) (λ c. omega arith)
-    loop-again returns)
+    (tie.spec invariant-loop decreases-loop (λ c. omega arith) overflow_sub-high overflow_mul-above overflow_add-above loop-c-init (λ c. omega arith)
+    (λ c. omega arith) (λ c. omega arith) (λ c. omega arith) (λ c. omega arith) (λ c κs. search rules) (λ c. omega arith) (λ c κs. search rules)
+    (λ c. omega arith) (λ c. omega arith) loop-c-preserved returns)

@@ -17,15 +17,16 @@ invariant-loop targets n bad₀ c₀ bad c = (c ≤ length targets) × (bad || b
 abbrev decreases-loop : tie.decreases-loop-c
 decreases-loop targets n bad₀ c₀ bad c = length targets - c
 
-loop-holds : tie.Need-loop-c-init invariant-loop decreases-loop
-loop-holds c = (search rules, refl)
+loop-c-init : tie.Need-loop-c-init invariant-loop decreases-loop
+loop-c-init c = (search rules, refl)
 
-loop-again : tie.Need-loop-c-preserved invariant-loop decreases-loop
-loop-again c =
+loop-c-preserved : tie.Need-loop-c-preserved invariant-loop decreases-loop
+loop-c-preserved c =
     let i = c.before.before.loop-c in (omega arith, any_turn _ i.bad _ i.c c.before.loop-c-test.true ∙ i.invariant.1)
 
 returns : tie.Need-returns invariant-loop decreases-loop
 returns c = any_end _ _ _ _ c.loop-c-test.false c.before.loop-c.invariant.1
 
 pub bad_targets_spec : {M : Type 1} → statement M
-bad_targets_spec = tie.close (tie.spec invariant-loop decreases-loop loop-holds (λ c. omega arith) (λ c. omega arith) (λ c. omega arith) loop-again returns)
+bad_targets_spec = tie.close
+    (tie.spec invariant-loop decreases-loop loop-c-init (λ c. omega arith) (λ c. omega arith) (λ c. omega arith) loop-c-preserved returns)

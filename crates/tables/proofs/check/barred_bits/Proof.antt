@@ -4,11 +4,11 @@ use Rattle.rules.specs.Limits.{no_state}
 use Rattle.tables.proofs.check.barred_bits.Statement.{statement}
 use Rattle.tables.proofs.check.barred_bits.Tie as tie
 
-returns : tie.Need-returns-then-target-eq-NO_STATE
-returns c = rw (eq-eqb c.before.args.target no_state c.if-target-eq-NO_STATE.true)
+returns-then-target-eq-NO_STATE : tie.Need-returns-then-target-eq-NO_STATE
+returns-then-target-eq-NO_STATE c = rw (eq-eqb c.before.args.target no_state c.if-target-eq-NO_STATE.true)
 
-returns_2 : tie.Need-returns-else-target-eq-NO_STATE
-returns_2 c = rw (ne_eqb c.before.args.target no_state c.if-target-eq-NO_STATE.false)
+returns-else-target-eq-NO_STATE : tie.Need-returns-else-target-eq-NO_STATE
+returns-else-target-eq-NO_STATE c = rw (ne_eqb c.before.args.target no_state c.if-target-eq-NO_STATE.false)
 
 pub barred_bits_spec : {M : Type 1} → statement M
-barred_bits_spec = tie.close (tie.spec returns returns_2)
+barred_bits_spec = tie.close (tie.spec returns-then-target-eq-NO_STATE returns-else-target-eq-NO_STATE)

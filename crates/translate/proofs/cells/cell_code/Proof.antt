@@ -14,17 +14,22 @@ cut_fits c =
     let l = c.if-n-state.false in
     (omega (arith, and_le_r (a.marks % 256) a.counted), omega (arith, and_le_r (a.marks / 256) a.counted), omega (arith, c.requires.0))
 
-returns_2 : tie.Need-returns-then-homes-state
-returns_2 c =
+returns-then-homes-state : tie.Need-returns-then-homes-state
+returns-then-homes-state c =
     let a = c.args in
     rw (lt-leb a.n a.target c.if-n-state.false, eq-eqb (get_or a.homes.now a.target 0) a.home c.if-homes-state.true)
 
-returns-3 : tie.Need-returns
-returns-3 c =
+returns : tie.Need-returns
+returns c =
     let a = c.args in
     rw (lt-leb a.n a.target c.if-n-state.false, ne_eqb (get_or a.homes.now a.target 0) a.home c.if-homes-state.false)
 
 pub cell_code_spec : {M : Type 1} → statement M
 cell_code_spec =
     tie.close
-    (tie.spec (λ c. rw (le-leb c.args.n c.args.target c.if-n-state.true)) (λ c. omega (arith, c.if-n-state.false, c.requires.0)) (λ c. omega (arith, c.if-n-state.false, c.requires.1)) (λ c. search rules) (λ c. search rules) (λ c. omega (arith, cut_fits (c))) (λ c. omega (arith, cut_fits (c))) (λ c. omega (arith, cut_fits (c))) (λ c. omega (arith, cut_fits (c))) (λ c. omega (arith, cut_fits (c))) (λ c. omega (arith, cut_fits (c))) (λ c. omega (arith, cut_fits (c))) returns_2 (λ c. omega (arith, c.if-n-state.false, c.requires.0)) (λ c. omega (arith, c.if-n-state.false, c.requires.2)) (λ c. omega (arith, c.requires.3 c.args.target c.if-n-state.false)) returns-3)
+    (tie.spec (λ c. rw (le-leb c.args.n c.args.target c.if-n-state.true)) (λ c. omega (arith, c.if-n-state.false, c.requires.0))
+    (λ c. omega (arith, c.if-n-state.false, c.requires.1)) (λ c. search rules) (λ c. search rules) (λ c. omega (arith, cut_fits (c)))
+    (λ c. omega (arith, cut_fits (c))) (λ c. omega (arith, cut_fits (c))) (λ c. omega (arith, cut_fits (c))) (λ c. omega (arith, cut_fits (c)))
+    (λ c. omega (arith, cut_fits (c))) (λ c. omega (arith, cut_fits (c))) returns-then-homes-state
+    (λ c. omega (arith, c.if-n-state.false, c.requires.0)) (λ c. omega (arith, c.if-n-state.false, c.requires.2))
+    (λ c. omega (arith, c.requires.3 c.args.target c.if-n-state.false)) returns)

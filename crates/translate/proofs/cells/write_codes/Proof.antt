@@ -49,21 +49,21 @@ module _ (c : tie.After-state_at-q invariant-loop decreases-loop) where
       let m = start.args.m in
       let here = c.state_at-q.ensures in (cell_same m p q a (i - q * m) l (omega (arith, here)) (e ∙ omega (arith, here))).0
 
-state-at-requires : tie.Need-state_at-q-requires invariant-loop decreases-loop
-state-at-requires c κs =
+state_at-q-requires : tie.Need-state_at-q-requires invariant-loop decreases-loop
+state_at-q-requires c κs =
     let s = c.before.before.before.before.before.before.before.before.before.before in
     let inv = c.loop-c.invariant in
     let low = state_below c c.loop-c.q inv.1 in
     (lt_of_mul-lt-mul_left s.args.n (omega (arith, c.loop-c-test.true)), s.requires.0.few_letters, omega (arith, low, s.requires.0.few_states), omega (arith, few s, inv.0), inv.1, inv.2)
 
-cell-code-requires : tie.Need-cell_code-requires invariant-loop decreases-loop
-cell-code-requires c κs =
+cell_code-requires : tie.Need-cell_code-requires invariant-loop decreases-loop
+cell_code-requires c κs =
     let r = c.requires.0 in
     let keys = c.write_entries.ensures in
     (r.few_states, r.home_room, keys.enough, λ q l. omega (arith, r.few_states, keys.entry q l, key_small q (get_or c.args.counted.now q 0)))
 
-loop-again : tie.Need-loop-c-preserved invariant-loop decreases-loop
-loop-again c =
+loop-c-preserved : tie.Need-loop-c-preserved invariant-loop decreases-loop
+loop-c-preserved c =
     let x = c.before.before.before.before.before.before in
     let turn = c.loop-c in
     let here = x.state_at-q.ensures in
@@ -85,4 +85,14 @@ returns c =
 pub write_codes_spec : {M : Type 1} → statement M
 write_codes_spec =
     tie.close
-    (tie.spec invariant-loop decreases-loop (λ c. search rules) (λ c κs. let r = c.requires.0 in (r.few_states, r.set_room, r.few_states)) (λ c. omega (arith, few c.before.before.before.before.before.before.before.before)) (λ c. (omega arith, omega arith, omega arith, filled_none _ _)) state-at-requires (λ c. omega (arith, placed c)) (λ c. omega (arith, placed c.before)) (λ c. omega (arith, placed c.before)) (λ c. omega (arith, placed c.before.before)) (λ c. omega (arith, placed c.before.before)) (λ c. omega (arith, placed c.before.before.before)) (λ c. omega (arith, placed c.before.before.before.before)) (λ c. search rules) cell-code-requires (λ c. omega (arith, placed c.before.before.before.before.before.before)) (λ c. omega (arith, placed c.before.before.before.before.before.before, c.loop-c.invariant.3.size, c.requires.2)) (λ c. omega (arith, placed c.before.before.before.before.before.before)) (λ c. omega (arith, placed c.before.before.before.before.before.before)) loop-again (λ c. omega (arith, c.requires.1, c.requires.0.few_states)) (λ c. omega (arith, c.requires.1, c.requires.0.few_states)) (λ c. c.loop-c.invariant.3.size) returns)
+    (tie.spec invariant-loop decreases-loop (λ c. search rules) (λ c κs. let r = c.requires.0 in (r.few_states, r.set_room, r.few_states))
+    (λ c. omega (arith, few c.before.before.before.before.before.before.before.before))
+    (λ c. (omega arith, omega arith, omega arith, filled_none _ _)) state_at-q-requires (λ c. omega (arith, placed c))
+    (λ c. omega (arith, placed c.before)) (λ c. omega (arith, placed c.before)) (λ c. omega (arith, placed c.before.before))
+    (λ c. omega (arith, placed c.before.before)) (λ c. omega (arith, placed c.before.before.before))
+    (λ c. omega (arith, placed c.before.before.before.before)) (λ c. search rules) cell_code-requires
+    (λ c. omega (arith, placed c.before.before.before.before.before.before))
+    (λ c. omega (arith, placed c.before.before.before.before.before.before, c.loop-c.invariant.3.size, c.requires.2))
+    (λ c. omega (arith, placed c.before.before.before.before.before.before)) (λ c. omega (arith, placed c.before.before.before.before.before.before))
+    loop-c-preserved (λ c. omega (arith, c.requires.1, c.requires.0.few_states)) (λ c. omega (arith, c.requires.1, c.requires.0.few_states))
+    (λ c. c.loop-c.invariant.3.size) returns)

@@ -25,12 +25,11 @@ module _ (c : tie.After-rising-order invariant-loop decreases-loop) where
 
   small : (c.rising-order.result.code < span) × (q < 64)
   small =
-      let s = c in
       let l = c.loop-q-test.true in
-      (omega (arith, c.rising-order.ensures, key_small 0 (get_or s.args.counted.now q 0)), omega (arith, s.requires.0))
+      (omega (arith, c.rising-order.ensures, key_small 0 (get_or c.args.counted.now q 0)), omega (arith, c.requires.0))
 
-loop-again : tie.Need-loop-q-preserved invariant-loop decreases-loop
-loop-again c =
+loop-q-preserved : tie.Need-loop-q-preserved invariant-loop decreases-loop
+loop-q-preserved c =
     let i = c.loop-q in
     (omega arith, filled_more _ _ _ i.q _ (omega arith) (ap (key_of i.q) c.rising-order.ensures) i.invariant.1)
 
@@ -43,4 +42,7 @@ returns c =
 pub write_entries_spec : {M : Type 1} → statement M
 write_entries_spec =
     tie.close
-    (tie.spec invariant-loop decreases-loop (λ c. (omega arith, filled_none _ _)) (λ c. search rules) (λ c κs. search rules) (λ c. omega (arith, small (c))) (λ c. omega (arith, small (c))) (λ c. omega (arith, small c.before)) (λ c. omega (arith, small c.before)) (λ c. omega (arith, c.loop-q.invariant.1.size)) (λ c. omega (arith, small c.before)) (λ c. search rules) loop-again (λ c. c.loop-q.invariant.1.size) returns)
+    (tie.spec invariant-loop decreases-loop (λ c. (omega arith, filled_none _ _)) (λ c. search rules) (λ c κs. search rules)
+    (λ c. omega (arith, small (c))) (λ c. omega (arith, small (c))) (λ c. omega (arith, small c.before)) (λ c. omega (arith, small c.before))
+    (λ c. omega (arith, c.loop-q.invariant.1.size)) (λ c. omega (arith, small c.before)) (λ c. search rules) loop-q-preserved
+    (λ c. c.loop-q.invariant.1.size) returns)

@@ -34,8 +34,8 @@ module _ (c : tie.After-lay_table-laid) where
   refusal : c.lay_table-laid.result.number ≡ table_fault bs
   refusal = c.lay_table-laid.ensures.refusal ∙ lay_fault_lem bs _ _ start.requires.0 start.requires.1
 
-returns : tie.Need-returns-then-laid-ne0
-returns c =
+returns-then-laid-ne0 : tie.Need-returns-then-laid-ne0
+returns-then-laid-ne0 c =
     let l = c.before.before.before.before.before.before.before in
     let n = c.refused_with.ensures in
     record { refusal = n ∙ first_some _ _ (refusal l) c.if-laid-ne0.true; task = λ z. absurd (c.if-laid-ne0.true (sym n ∙ z)) }
@@ -57,8 +57,8 @@ module _ (c : tie.Else-laid-ne0) where
   laid : let x = lay.lay_table-laid in LaidTable t x.result.states x.result.letters x.result.start x.new.targets x.new.marks
   laid = let x = lay.lay_table-laid in laid_table is_taken_lem c.if-laid-ne0.false x.auto.targets x.auto.marks (start lay).requires.0 (start lay).requires.1 x.ensures
 
-returns_2 : tie.Need-returns-then-short
-returns_2 c =
+returns-then-short : tie.Need-returns-then-short
+returns-then-short c =
     let n = c.refused_with-then-short.ensures in
     record { refusal = n ∙ sym (rw (is_taken_lem c.before.before, c.if-short.true)); task = λ z. absurd (omega (arith, n, z)) }
 
@@ -72,17 +72,17 @@ module _ (c : tie.After-survey_cells) where
       let k = c.survey_cells.auto in
       surveyed (good e) (laid e) (good e).few_states (good e).few_states k.homes k.counted c.survey_cells.ensures
 
-write-codes-requires : tie.Need-write_codes-start-requires
-write-codes-requires c κs =
+write_codes-start-requires : tie.Need-write_codes-start-requires
+write_codes-start-requires c κs =
     let v = survey c.before.before.before.before.before in
     let x = c.before.before.before.before.before.before.before.before.before.before in
     (cells_room (good x) (laid x) v.0 v.1, omega (arith, (laid x).states, (laid x).start_state, (good x).start_state), laid_fit (good x) (laid x) _ ((start (lay x)).requires.2 (is_taken_lem x)))
 
-mul-used : tie.Need-overflow_mul-result
-mul-used c = let x = c.before.before.before.before.before.before.before.before.before.before.before.before.before in omega (arith, laid_fit (good x) (laid x) (max_states * max_letters) (table_facts _ (is_taken_lem x)).sizes.most_cells)
+overflow_mul-result : tie.Need-overflow_mul-result
+overflow_mul-result c = let x = c.before.before.before.before.before.before.before.before.before.before.before.before.before in omega (arith, laid_fit (good x) (laid x) (max_states * max_letters) (table_facts _ (is_taken_lem x)).sizes.most_cells)
 
-returns-3 : tie.Need-returns
-returns-3 c =
+returns : tie.Need-returns
+returns c =
     let v = survey c.before.before.before.before.before.before.before.before in
     let x = c.before.before.before.before.before.before.before.before.before.before.before.before.before in
     let w = c.write_codes-start.ensures in
@@ -92,4 +92,7 @@ returns-3 c =
 pub encode_in_spec : {M : Type 1} → statement M
 encode_in_spec =
     tie.close
-    (tie.spec (λ c κs. search rules) (λ c κs. search rules) (λ c. search rules) (λ c. search rules) returns (λ c κs. search rules) (λ c. search rules) (λ c. search rules) returns_2 (λ c. search rules) (λ c. search rules) (λ c. search rules) (λ c κs. search rules) (λ c. search rules) (λ c. search rules) write-codes-requires mul-used (λ c. search rules) (λ c. search rules) (λ c. search rules) returns-3)
+    (tie.spec (λ c κs. search rules) (λ c κs. search rules) (λ c. search rules) (λ c. search rules) returns-then-laid-ne0 (λ c κs. search rules)
+    (λ c. search rules) (λ c. search rules) returns-then-short (λ c. search rules) (λ c. search rules) (λ c. search rules) (λ c κs. search rules)
+    (λ c. search rules) (λ c. search rules) write_codes-start-requires overflow_mul-result (λ c. search rules) (λ c. search rules) (λ c. search rules)
+    returns)

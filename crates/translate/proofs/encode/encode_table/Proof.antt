@@ -7,4 +7,6 @@ use Rattle.translate.proofs.encode.encode_table.Tie as tie
 pub encode_table_spec : {M : Type 1} → statement M
 encode_table_spec =
     tie.close
-    (tie.spec (λ c. search rules) (λ c. search rules) (λ c κs. let s = c in let few = s.requires.0 c.if-few.true in (few, few, s.requires.1)) (λ c. search rules) (λ c. search rules) (λ c. search rules) (λ c. search rules) (λ c κs. (many_cells _, many_cells _, c.requires.1)) (λ c. search rules) (λ c. search rules))
+    (tie.spec (λ c. search rules) (λ c. search rules) (λ c κs. let few = c.requires.0 c.if-few.true in (few, few, c.requires.1)) (λ c. search rules)
+    (λ c. search rules) (λ c. search rules) (λ c. search rules) (λ c κs. (many_cells _, many_cells _, c.requires.1)) (λ c. search rules)
+    (λ c. search rules))

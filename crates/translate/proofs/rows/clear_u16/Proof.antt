@@ -13,8 +13,8 @@ invariant-loop array₀ from to i₀ array i = (from ≤ i) × (i ≤ to) × Cle
 abbrev decreases-loop : tie.decreases-loop-i
 decreases-loop array₀ from to i₀ array i = to - i
 
-loop-again : tie.Need-loop-i-preserved invariant-loop decreases-loop
-loop-again c =
+loop-i-preserved : tie.Need-loop-i-preserved invariant-loop decreases-loop
+loop-i-preserved c =
     let i = c.loop-i in
     (omega arith, omega arith, cleared_more c.args.from i.i c.args.array.now i.array i.invariant.0 (omega (arith, c.requires.1)) i.invariant.2)
 
@@ -24,4 +24,6 @@ returns c = let i = c.loop-i in rw (le_antisymm i.invariant.1 c.loop-i-test.fals
 pub clear_u16_spec : {M : Type 1} → statement M
 clear_u16_spec =
     tie.close
-    (tie.spec invariant-loop decreases-loop (λ c. (le_refl c.args.from, c.requires.0, cleared_none c.args.from c.args.array.now)) (λ c. omega arith) (λ c. omega (arith, c.loop-i.invariant.2.size, c.requires.1)) (λ c. omega arith) (λ c. omega arith) loop-again (λ c. c.loop-i.invariant.2.size) returns)
+    (tie.spec invariant-loop decreases-loop (λ c. (le_refl c.args.from, c.requires.0, cleared_none c.args.from c.args.array.now)) (λ c. omega arith)
+    (λ c. omega (arith, c.loop-i.invariant.2.size, c.requires.1)) (λ c. omega arith) (λ c. omega arith) loop-i-preserved
+    (λ c. c.loop-i.invariant.2.size) returns)

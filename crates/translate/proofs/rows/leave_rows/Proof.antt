@@ -12,4 +12,10 @@ cells_before s = mul-le-mul_right s.args.m s.requires.0.1
 pub leave_rows_spec : {M : Type 1} → statement M
 leave_rows_spec =
     tie.close
-    (tie.spec (λ c κs. search rules) (λ c. omega (arith, cells_before c.before.before.before.before.before.before.before.before.before.before.before.before)) (λ c. search rules) (λ c κs. omega (arith, cells_before c.before.before.before.before.before.before.before.before.before.before.before.before)) (λ c. omega (arith, cells_before c.before.before.before.before.before.before.before.before.before.before.before.before.before.before.before.before)) (λ c. search rules) (λ c κs. omega (arith, cells_before c.before.before.before.before.before.before.before.before.before.before.before.before.before.before.before.before)) (λ c κs. search rules) (λ c κs. search rules) (λ c. search rules) (λ c. search rules) (λ c. search rules) (λ c. search rules) (λ c. search rules))
+    (tie.spec (λ c κs. search rules)
+    (λ c. omega (arith, cells_before c.before.before.before.before.before.before.before.before.before.before.before.before)) (λ c. search rules)
+    (λ c κs. omega (arith, cells_before c.before.before.before.before.before.before.before.before.before.before.before.before))
+    (λ c. omega (arith, cells_before c.before.before.before.before.before.before.before.before.before.before.before.before.before.before.before.before))
+    (λ c. search rules)
+    (λ c κs. omega (arith, cells_before c.before.before.before.before.before.before.before.before.before.before.before.before.before.before.before.before))
+    (λ c κs. search rules) (λ c κs. search rules) (λ c. search rules) (λ c. search rules) (λ c. search rules) (λ c. search rules) (λ c. search rules))

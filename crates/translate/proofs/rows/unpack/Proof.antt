@@ -26,12 +26,11 @@ module _ (c : tie.In-loop-i invariant-loop decreases-loop) where
   small : source_in (get_or c.loop-i.keys c.loop-i.i 0) < 256
   small = rw (c.loop-i.invariant.0.key_rest.same c.loop-i.i (omega arith)) (s.requires.3 c.loop-i.i here.2)
 
-loop-again : tie.Need-loop-i-preserved invariant-loop decreases-loop
-loop-again c =
-    let s = c in
+loop-i-preserved : tie.Need-loop-i-preserved invariant-loop decreases-loop
+loop-i-preserved c =
     let turn = c.loop-i in
     let h = here c.before.before in
-    (unpacked_more turn.i s.args.keys.now turn.keys s.args.sources.now turn.sources turn.invariant.0 (omega (arith, h, s.requires)) (omega (arith, h, s.requires)) _ _ refl c.number.ensures, omega (arith, h))
+    (unpacked_more turn.i c.args.keys.now turn.keys c.args.sources.now turn.sources turn.invariant.0 (omega (arith, h, c.requires)) (omega (arith, h, c.requires)) _ _ refl c.number.ensures, omega (arith, h))
 
 returns : tie.Need-returns invariant-loop decreases-loop
 returns c =
@@ -42,4 +41,8 @@ returns c =
 pub unpack_spec : {M : Type 1} → statement M
 unpack_spec =
     tie.close
-    (tie.spec invariant-loop decreases-loop (λ c. (unpacked_none _ _, omega arith)) (λ c. omega (arith, here (c), c.requires.0)) (λ c. omega (arith, here c.before)) (λ c. omega (arith, small c.before)) (λ c. omega (arith, here c.before)) (λ c κs. tt) (λ c. omega (arith, here c.before.before, c.requires.0)) (λ c. omega (arith, here c.before.before)) (λ c. omega (arith, here c.before.before, c.requires.0)) (λ c. omega (arith, here c.before.before)) loop-again (λ c. c.loop-i.invariant.0.key_rest.size) (λ c. c.loop-i.invariant.0.state_rest.size) returns)
+    (tie.spec invariant-loop decreases-loop (λ c. (unpacked_none _ _, omega arith)) (λ c. omega (arith, here (c), c.requires.0))
+    (λ c. omega (arith, here c.before)) (λ c. omega (arith, small c.before)) (λ c. omega (arith, here c.before)) (λ c κs. tt)
+    (λ c. omega (arith, here c.before.before, c.requires.0)) (λ c. omega (arith, here c.before.before))
+    (λ c. omega (arith, here c.before.before, c.requires.0)) (λ c. omega (arith, here c.before.before)) loop-i-preserved
+    (λ c. c.loop-i.invariant.0.key_rest.size) (λ c. c.loop-i.invariant.0.state_rest.size) returns)
