@@ -1,6 +1,6 @@
 -- The cards that the program cites.
---     numbered        the card of a number is a card of the list
---     not_refused     in arrays with room for the most rows and letters a table that is translated is not refused
+--     numbered       the card of a number is a card of the list
+--     not_refused    in arrays with room for the most rows and letters a table that is translated is not refused
 use mathlib.Core.Path.{◌≡◌, ◌∙◌}
 use mathlib.Core.Bool.{true}
 use mathlib.Core.List.{List}

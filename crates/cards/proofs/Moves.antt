@@ -1,8 +1,8 @@
 -- A record's code after a move, as the list of its pairs.
---     fewer_in        what is in a list is in one that holds no less of it
---     range_in        the numbers i, i + 1 .. hold each of them
---     in_set          a pair is in the list of a set exactly if its bit is set
---     moved_pairs     the pairs of a set move to the front of the pairs of a code that has no gap
+--     fewer_in       what is in a list is in one that holds no less of it
+--     range_in       the numbers i, i + 1 .. hold each of them
+--     in_set         a pair is in the list of a set exactly if its bit is set
+--     moved_pairs    the pairs of a set move to the front of the pairs of a code that has no gap
 use mathlib.Core.Path.{◌≡◌, refl, sym, ap, ◌∙◌}
 use mathlib.Core.Bool.{true}
 use mathlib.Core.List.{List}

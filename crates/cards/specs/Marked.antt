@@ -1,5 +1,5 @@
 -- What the functions for cards with a star ask and give.
---     pairs_of set               list: the pairs of a set, rising
+--     pairs_of set              list: the pairs of a set, rising
 --     HasCard bs                claim: a card of the list says what the table's translation is
 --     TranslatedAs bs o rows    claim: such a card, and the arrays begin with what it says
 use Rattle.std.specs.Prelude.{List, ℕ, ◌-◌}

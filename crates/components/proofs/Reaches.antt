@@ -1,11 +1,11 @@
 -- A search from one state on, for any system and whatever the arrays are.
---     reached_start, reached_old, reached_new, reached_letters    the first state; one letter more, to a state that is met or not; all letters of a state
---     reached_path     a path leads to every state that is met, with fewer letters than its number
---     untouched_none, untouched_then, untouched_start    entries past the states that are met: nothing is written, one writing after another, the
---                      numbers are cleared and the first state is met
---     Reaching, reach_room_kept, reaching_none, reaching_more, reached_own    the search underway
+--     reached_start, reached_old, reached_new, reached_letters                  the first state; one letter more, to a state that is met or not; all letters of a state
+--     reached_path                                                              a path leads to every state that is met, with fewer letters than its number
+--     untouched_none, untouched_then, untouched_start                           entries past the states that are met: nothing is written, one writing after another, the
+--                                                                               numbers are cleared and the first state is met
+--     Reaching, reach_room_kept, reaching_none, reaching_more, reached_own      the search underway
 --     FromEarlier, LeadsOn, Leading, leading_none, leading_more, leading_all    a path written from its end
---     reached_exact    when all letters are read, what is met is what is reached
+--     reached_exact                                                             when all letters are read, what is met is what is reached
 use mathlib.Core.Path.{◌≡◌, refl, sym, ap, ◌∙◌}
 use mathlib.Core.Bool.{Bool, false, not, ◌&&◌}
 use mathlib.Core.List.{List, [], ◌∷◌, ◌++◌}

@@ -1,13 +1,13 @@
 -- The turns of a search, over arrays.
---     next_kept, next_stored    a state's next letter is stored
---     turn_read                 all letters of a state are read
---     turn_entered              a letter leads to a state that is not yet met
---     quiet_below               nothing waits beyond what waits last
---     turn_closed               the last part is a component
---     room_kept                 arrays that keep their lengths have room
---     SearchUnderway, underway_none, underway_more    a search since its arrays were as given
+--     next_kept, next_stored                                     a state's next letter is stored
+--     turn_read                                                  all letters of a state are read
+--     turn_entered                                               a letter leads to a state that is not yet met
+--     quiet_below                                                nothing waits beyond what waits last
+--     turn_closed                                                the last part is a component
+--     room_kept                                                  arrays that keep their lengths have room
+--     SearchUnderway, underway_none, underway_more               a search since its arrays were as given
 --     searched_none, searched_root, searched_empty, all_found    how a search begins and ends
---     found_from_lem                a search from one state finds the components of what it reaches
+--     found_from_lem                                             a search from one state finds the components of what it reaches
 use mathlib.Core.Path.{◌≡◌, refl, sym, ap, ◌∙◌}
 use mathlib.Core.Bool.{true, false}
 use mathlib.Core.List.{List}

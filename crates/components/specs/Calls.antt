@@ -1,16 +1,16 @@
 -- What the crate's calls promise, for all sizes and arrays. A prime marks an array's contents at exit.
---     cells_fit n m t             test: n states and m letters are few enough, and t targets are enough for their cells
---     components_fit n m ..       test: a search for components can begin: sizes, and the lengths of three arrays: targets, five entries to
---                                work in for each state, room for results
---     ComponentsFound n m ..     claim: the smallest state of each state's component is at the front of `out`, entries past the states
---                                untouched; and what these numbers are, in terms of paths
---     component_from s from q     number: the smallest state of q's component where `from` reaches q, else no state: how many there are
+--     cells_fit n m t                  test: n states and m letters are few enough, and t targets are enough for their cells
+--     components_fit n m ..            test: a search for components can begin: sizes, and the lengths of three arrays: targets, five entries to
+--                                      work in for each state, room for results
+--     ComponentsFound n m ..           claim: the smallest state of each state's component is at the front of `out`, entries past the states
+--                                      untouched; and what these numbers are, in terms of paths
+--     component_from s from q          number: the smallest state of q's component where `from` reaches q, else no state: how many there are
 --     ComponentsReached n m from ..    claim: these numbers are at the front of `out`, entries past the states untouched
---     reach_fits n m from t ..    test: a search from a state can begin: sizes, t targets, and the lengths of four arrays
---     ReachFound n m from ..     claim: exactly the states that `from` reaches are met, each with the place that it was met from and the
---                                letter; entries past the states, and past those met, untouched
---     PathFound place ..         claim: where a search has left parents and letters, `out` from the result on is a path to the state at the
---                                place
+--     reach_fits n m from t ..         test: a search from a state can begin: sizes, t targets, and the lengths of four arrays
+--     ReachFound n m from ..           claim: exactly the states that `from` reaches are met, each with the place that it was met from and the
+--                                      letter; entries past the states, and past those met, untouched
+--     PathFound place ..               claim: where a search has left parents and letters, `out` from the result on is a path to the state at the
+--                                      place
 use Rattle.std.specs.Prelude.{◌≡◌, Bool, true, false, ◌&&◌, List, ℕ, ◌*◌, ◌<◌, ◌≤◌, ltb, leb, length, take, drop}
 use Rattle.rules.specs.Basics.{pick, tabulate}
 use Rattle.rules.specs.Judges.{parity_system}

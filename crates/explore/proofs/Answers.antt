@@ -1,8 +1,8 @@
 -- From what the exploration found to what it promises.
---     has_room      what holds where no array is too short
---     fit_sizes     what a task that is not unfit has
---     rows_done     all rows are read, or more than the capacity were found
---     many_after    rows read with a large index after those read with a small one
+--     has_room                                  what holds where no array is too short
+--     fit_sizes                                 what a task that is not unfit has
+--     rows_done                                 all rows are read, or more than the capacity were found
+--     many_after                                rows read with a large index after those read with a small one
 --     answer_unfit, answer_full, answer_rows    the three answers
 use mathlib.Core.Path.{◌≡◌, refl, sym, ap, ◌∙◌}
 use mathlib.Core.Bool.{true, false, ◌||◌}

@@ -1,8 +1,8 @@
 -- A key is looked up and, where it is absent and there is room, its row is filed.
 --     number_most, number_found, number_absent    the number of a key among keys that are all different
---     rows_old, rows_new    how many rows there are when a key was found or added
---     filed_found, filed_full, filed_added    the three outcomes
---     linked_more           the index with the key that was added
+--     rows_old, rows_new                          how many rows there are when a key was found or added
+--     filed_found, filed_full, filed_added        the three outcomes
+--     linked_more                                 the index with the key that was added
 use mathlib.Core.Path.{◌≡◌, refl, sym, ◌∙◌}
 use mathlib.Core.List.{List}
 use Prim.Native.Nat.{ℕ, suc, ◌<◌, ◌≤◌}

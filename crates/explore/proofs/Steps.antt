@@ -1,12 +1,12 @@
 -- A row is read by a letter.
---     keyed_same                          sameness of keys is equality
---     key_row_lem                             the row of a number is the key of that number
---     step_here                           the step of a cell, by its code and the effect of its marks
---     row_fits, cell_fits                 the cells of a key that fits
---     code_fits, step_fits, key_there     a code and a step lead to keys that fit; the code of a transition gives a step that is there
---     cell_missing, read_there            a cell has been read whose transition is missing, or is there and its key is filed
+--     keyed_same                                                             sameness of keys is equality
+--     key_row_lem                                                            the row of a number is the key of that number
+--     step_here                                                              the step of a cell, by its code and the effect of its marks
+--     row_fits, cell_fits                                                    the cells of a key that fits
+--     code_fits, step_fits, key_there                                        a code and a step lead to keys that fit; the code of a transition gives a step that is there
+--     cell_missing, read_there                                               a cell has been read whose transition is missing, or is there and its key is filed
 --     step_count, step_most, step_rest, step_rows, step_front, step_known    how many rows there are then, at most one more, what stays past them,
---                                         which they are, that those known before stay, and what is known
+--                                                                            which they are, that those known before stay, and what is known
 use mathlib.Core.Path.{◌≡◌, refl, sym, ap, ◌∙◌}
 use mathlib.Core.Bool.{Bool, true, false}
 use mathlib.Core.List.{List, [], ◌∷◌, ◌++◌}

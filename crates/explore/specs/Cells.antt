@@ -1,13 +1,13 @@
 -- Keys, and the codes of cells. A key is a row as one number, span times its state plus its memory. A code says what a cell of a table does.
---     span                              one more than the largest memory
---     key_of q w, source_in, memory_in v   the key of the state q with the memory w; the parts of a key
---     crossing_kind, inside_kind          what is added for the kind of a transition that is there; a missing one has a code below both
---     crossing_code v                    the code of a crossing that enters at the key v
---     inside_code x marks                the code of an inside transition to the state x
---     entered_in, target_in, marks_in w    numbers: the parts of the code w
---     state_in w                         the state to which the code w leads
---     strays n w                        test: the transition of w is there and leads to no state below n
---     step_in w e                        step of a cell with the code w and the effect e of its marks: the memory after it and the priority
+--     span                                  one more than the largest memory
+--     key_of q w, source_in, memory_in v    the key of the state q with the memory w; the parts of a key
+--     crossing_kind, inside_kind            what is added for the kind of a transition that is there; a missing one has a code below both
+--     crossing_code v                       the code of a crossing that enters at the key v
+--     inside_code x marks                   the code of an inside transition to the state x
+--     entered_in, target_in, marks_in w     numbers: the parts of the code w
+--     state_in w                            the state to which the code w leads
+--     strays n w                            test: the transition of w is there and leads to no state below n
+--     step_in w e                           step of a cell with the code w and the effect e of its marks: the memory after it and the priority
 use Rattle.std.specs.Prelude.{Bool, true, false, ◌&&◌, ℕ, ◌+◌, ◌*◌, ◌/◌, ◌%◌, ltb, leb}
 use Rattle.rules.specs.Basics.{pick}
 use Rattle.rules.specs.Rows.{Step, missing_priority, crossing_priority}

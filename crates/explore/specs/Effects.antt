@@ -1,10 +1,10 @@
 -- What marks do to a memory, for each rule, and what is explored.
---     effect_by rule order marks      number, the effect: the memory after the move, and span times the priority
---     IsEffect rule order marks e    claim: e is the effect, and its priority is a byte
---     key_step, keyed, key_plan        step and plans of a task's rows as keys: a cell's code and the effect of its marks on the memory
---     SameMarks first m cells        claim: the m cells from `first` on have the same marks
---     Strides first m cells r        claim: r is at most 1, and 0 only if they do
---     EffectsTo rule order first n cells effects    claim: the effects of n cells on a memory, one by one
+--     effect_by rule order marks                      number, the effect: the memory after the move, and span times the priority
+--     IsEffect rule order marks e                     claim: e is the effect, and its priority is a byte
+--     key_step, keyed, key_plan                       step and plans of a task's rows as keys: a cell's code and the effect of its marks on the memory
+--     SameMarks first m cells                         claim: the m cells from `first` on have the same marks
+--     Strides first m cells r                         claim: r is at most 1, and 0 only if they do
+--     EffectsTo rule order first n cells effects      claim: the effects of n cells on a memory, one by one
 --     EffectsOn rule order first m r cells effects    claim: the effects of m cells on a memory, that of cell a at place a · r
 use Rattle.std.specs.Prelude.{◌≡◌, List, ℕ, ◌+◌, ◌*◌, ◌/◌, ◌%◌, ◌<◌, ◌≤◌, eqb, get_or}
 use Rattle.rules.specs.Systems.{cell}

@@ -1,6 +1,6 @@
 -- The exploration: what a task must have, which rows are known, which cells are read, and what is promised.
---     states_in m cells                  number: the states that the cells are for
---     is_unfit t cells c k a b           test: the letters or the capacity are out of range, the start or a code leads outside the cells, or one
+--     states_in m cells                 number: the states that the cells are for
+--     is_unfit t cells c k a b          test: the letters or the capacity are out of range, the start or a code leads outside the cells, or one
 --                                       of the arrays, for k keys, a targets and b priorities, is too short
 --     Fits m cells v                    claim: the cells of the key's state are among the cells
 --     Closed t cells                    claim: the letters are in range, and the start and every code lead to keys that fit
@@ -14,7 +14,7 @@
 --     RowsPart t cells c i o o' r       claim: what reading the rows below i leaves, r being known: a stage, or more than c
 --     RowsSay t cells n l c i o o' r    claim: the same from n known rows on, where all rows are read or more than l are known
 --     ExploresAll t cells c o o' r      claim: all r rows have been read, or more than c were found
---     explored_of t cells c k a b        the answer of an exploration
+--     explored_of t cells c k a b       the answer of an exploration
 --     Leaves x t cells c o o'           claim: what the arrays hold after the answer x: the rows, later entries untouched; after Full the first
 --                                       c rows of each are unspecified; after Unfit all is untouched
 --     ExploreSays t cells c o o' x      claim: an exploration gives the answer x and leaves the arrays so

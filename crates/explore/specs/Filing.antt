@@ -1,6 +1,6 @@
 -- Keys that are filed, and their index.
 --     Filed c n keys                claim: n keys of at most c are filed, each once
---     rows_after n r                 number: how many keys are filed when the one of number r has been looked up among n
+--     rows_after n r                number: how many keys are filed when the one of number r has been looked up among n
 --     Files c key n keys keys' r    claim: r is the key's number, and it has been filed if it was absent and there was room
 use Rattle.std.specs.Prelude.{◌≡◌, List, ℕ, suc, ◌≤◌, eqb, length, set}
 use Rattle.rules.specs.Basics.{pick}

@@ -1,12 +1,12 @@
 -- The index of keys: chains of places, one chain for each slot. Nothing is asked of the slot of a key but that it is a slot.
---     slot_of slots key             number: the slot of a key among so many (multiplicative hashing)
---     nearest slots keys s n       number: one more than the last place below n whose key has the slot s, 0 if there is none
+--     slot_of slots key                   number: the slot of a key among so many (multiplicative hashing)
+--     nearest slots keys s n              number: one more than the last place below n whose key has the slot s, 0 if there is none
 --     Indexed slots n keys heads links    claim: heads has the nearest place for each slot, links the one before each place, of the same slot
---     Linked n keys heads links    claim: such an index of n keys, with some slots
---     Apart n keys                 claim: no key is twice among the first n
---     number_among key n keys       number: the place of the key among the first n, n if it is absent
---     Finds n key keys f           claim: f is the place of the key among the first n, or says that it is absent
---     KeyIndexed key n ..          claim: the index with one key more, of number n; a prime marks an array's contents at exit
+--     Linked n keys heads links           claim: such an index of n keys, with some slots
+--     Apart n keys                        claim: no key is twice among the first n
+--     number_among key n keys             number: the place of the key among the first n, n if it is absent
+--     Finds n key keys f                  claim: f is the place of the key among the first n, or says that it is absent
+--     KeyIndexed key n ..                 claim: the index with one key more, of number n; a prime marks an array's contents at exit
 use Rattle.std.specs.Prelude.{◌≡◌, List, ℕ, zero, suc, ◌-◌, ◌*◌, ◌/◌, ◌%◌, ◌<◌, ◌≤◌, eqb, length, get_or, set, take}
 use Rattle.std.specs.Int.Bits.{bit_and}
 use Rattle.rules.specs.Basics.{pick}

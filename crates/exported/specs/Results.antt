@@ -1,8 +1,8 @@
 -- What goes out of a call as numbers.
 --     answered r                 a judge's answer as the two numbers that go out
---     rest_piece lead i           number: the piece in which the rest from place i on lies: 0 the lead-in, 1 the loop
---     rest_start lead l i         number: the letter of that piece with which it begins, the loop's end where the place is past the last letter
---     piece_of p lead l           list: the piece of a number
+--     rest_piece lead i          number: the piece in which the rest from place i on lies: 0 the lead-in, 1 the loop
+--     rest_start lead l i        number: the letter of that piece with which it begins, the loop's end where the place is past the last letter
+--     piece_of p lead l          list: the piece of a number
 --     RestLies lead l i p s n    claim: the rest from place i on is n letters of piece p, from letter s on
 use Rattle.std.specs.Prelude.{◌≡◌, List, ℕ, ◌-◌, min, eqb, ltb, length, take, drop}
 use Rattle.rules.specs.Basics.{pick}

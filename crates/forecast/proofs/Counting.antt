@@ -1,10 +1,10 @@
 -- The figures of a table, from what is surveyed of it.
---     orders_at, factorial_few        the table of orders holds factorials, and they are small
---     bits_counted, kept_counted      how many bits are set, and how many numbers pass a test
---     pairs_counted                   the pairs that count at a state, by the set of them
+--     orders_at, factorial_few                    the table of orders holds factorials, and they are small
+--     bits_counted, kept_counted                  how many bits are set, and how many numbers pass a test
+--     pairs_counted                               the pairs that count at a state, by the set of them
 --     FiguresBelow, figures_none, figures_more    the figures of the states below q, one state more
---     sets_few, figures_are           the sets are small, and the figures of all states are the table's
---     refused_says, forecast_says     what the call promises
+--     sets_few, figures_are                       the sets are small, and the figures of all states are the table's
+--     refused_says, forecast_says                 what the call promises
 use mathlib.Core.Path.{◌≡◌, refl, sym, ap, ap₂, ◌∙◌}
 use mathlib.Core.Bool.{Bool}
 use mathlib.Core.List.{List, [], ◌∷◌}

@@ -1,5 +1,5 @@
 -- The figures, from arrays.
---     rows_at n hs cs q                 number: what state q adds to the rows: the orders of the pairs in its set, 0 where its home is no state
+--     rows_at n hs cs q                number: what state q adds to the rows: the orders of the pairs in its set, 0 where its home is no state
 --     FiguresSay n hs cs rows pairs    claim: over the n states with homes hs that are states, the sum of the orders of the pairs in their sets cs; and
 --                                      the most pairs that one set holds
 use Rattle.std.specs.Prelude.{◌≡◌, List, ℕ, ◌≤◌, ltb, get_or}

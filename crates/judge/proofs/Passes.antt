@@ -1,10 +1,10 @@
 -- A word that is read pass by pass, over any transition system.
---     misses_judged      the answer where the lead-in meets a missing transition
---     underway_entry, underway_next, underway_kept    the lead-in is read; one pass more, and its sum
+--     misses_judged                                     the answer where the lead-in meets a missing transition
+--     underway_entry, underway_next, underway_kept      the lead-in is read; one pass more, and its sum
 --     underway_state, underway_count, underway_early    what holds of a word that is being read, and as long as a pass begins at a new place
---     underway_misses    the answer where a pass meets a missing transition
---     round_earlier, round_judged, round_sums    the next pass begins where an earlier one began: that one, the answer, the sum of the recurring
---                        transitions
+--     underway_misses                                   the answer where a pass meets a missing transition
+--     round_earlier, round_judged, round_sums           the next pass begins where an earlier one began: that one, the answer, the sum of the recurring
+--                                                       transitions
 use mathlib.Core.Path.{◌≡◌, refl, sym, ap, ◌∙◌, subst⁻¹}
 use mathlib.Core.Bool.{Bool, false}
 use mathlib.Core.List.{List}

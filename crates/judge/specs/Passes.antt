@@ -1,15 +1,15 @@
 -- A word as it is read, pass by pass; over any transition system. A pass is one repetition of the loop.
---     SumsUp t g xs v            claim: v sums up the numbers g x for the x of xs: it passes the test t i exactly if one of them does. With the
---                                tests `ltb` it is the largest of them, with the tests `bit` the union of sets
---     MissesAfter s p w n        claim: reading w from p meets a missing transition after n letters
---     PieceSays s p w q n        claim: reading w from p leads to q, or, where q is no state, meets a missing transition after n letters
---     SumsUpOn s t g p w q v     claim: where q is a state, v sums up the transitions taken in reading w from p
---     Blank n begun              claim: no pass is known to have begun at any of n places
---     Begun s l e r q begun      claim: r passes have been read from e on and led to q; begun has, for each place where one of them began, one
---                                more than its number, and 0 for the other places
---     SumsKept s l e t g r vs    claim: for each of r passes, vs sums up the transitions that it takes
+--     SumsUp t g xs v                                    claim: v sums up the numbers g x for the x of xs: it passes the test t i exactly if one of them does. With the
+--                                                        tests `ltb` it is the largest of them, with the tests `bit` the union of sets
+--     MissesAfter s p w n                                claim: reading w from p meets a missing transition after n letters
+--     PieceSays s p w q n                                claim: reading w from p leads to q, or, where q is no state, meets a missing transition after n letters
+--     SumsUpOn s t g p w q v                             claim: where q is a state, v sums up the transitions taken in reading w from p
+--     Blank n begun                                      claim: no pass is known to have begun at any of n places
+--     Begun s l e r q begun                              claim: r passes have been read from e on and led to q; begun has, for each place where one of them began, one
+--                                                        more than its number, and 0 for the other places
+--     SumsKept s l e t g r vs                            claim: for each of r passes, vs sums up the transitions that it takes
 --     WordUnderway s q lead l e r p count first begun    claim: a word is being read from q: the lead-in led to e and r passes to p, count letters
---                                in all, and first is what begun has for p
+--                                                        in all, and first is what begun has for p
 use Rattle.std.specs.Prelude.{◌≡◌, Bool, List, ℕ, suc, ◌+◌, ◌*◌, ◌<◌, ◌≤◌, length, get_or}
 use Rattle.rules.specs.Basics.{any}
 use Rattle.rules.specs.Systems.{System, Path}

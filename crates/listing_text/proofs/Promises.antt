@@ -1,12 +1,12 @@
 -- From what the translator promises to what the listing promises.
---     front_length, front_at     on success an array begins with what the translator found
---     lines_same                 lines over arrays that agree where they are read
---     success                    what the translator promises, where its number is 0; then:
---     facts                      what holds of the table and the arrays
---     shown                      there is room in the arrays for the rows
---     listing_done, done_reach   the listing is the head and the lines of the arrays as they are left, and is in reach
+--     front_length, front_at            on success an array begins with what the translator found
+--     lines_same                        lines over arrays that agree where they are read
+--     success                           what the translator promises, where its number is 0; then:
+--     facts                             what holds of the table and the arrays
+--     shown                             there is room in the arrays for the rows
+--     listing_done, done_reach          the listing is the head and the lines of the arrays as they are left, and is in reach
 --     listing_refused, refused_reach    on a refusal the listing is its line, and is in reach
---     listing_says               the promise, where the listing is the text that was written
+--     listing_says                      the promise, where the listing is the text that was written
 use mathlib.Core.Path.{◌≡◌, sym, ap, ◌∙◌}
 use mathlib.Core.List.{List, ◌++◌, append_assoc}
 use Prim.Native.Nat.{ℕ, ◌*◌, ◌≤◌, ◌<◌, min}

@@ -1,9 +1,9 @@
 -- Texts that are written one after the other.
---     wrote_none                 nothing
---     wrote_both                 two texts, one after the other
---     wrote_length               the array stays as long as it was
---     reach_first, reach_then    where the whole is in reach, so is its first part, and from its end on the second
---     wrote_next, reach_next     of texts that are written one by one, the next one
+--     wrote_none                          nothing
+--     wrote_both                          two texts, one after the other
+--     wrote_length                        the array stays as long as it was
+--     reach_first, reach_then             where the whole is in reach, so is its first part, and from its end on the second
+--     wrote_next, reach_next              of texts that are written one by one, the next one
 --     wrote_next_byte, reach_next_byte    of bytes that are written one by one, the next one
 use mathlib.Core.Path.{◌≡◌, refl, sym, ap, ◌∙◌}
 use mathlib.Core.List.{List, [], ◌∷◌, ◌++◌}

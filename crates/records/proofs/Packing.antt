@@ -1,22 +1,22 @@
 -- Records as codes: what a code keeps of an ordering, and a turn of each loop over the positions of a record.
---     AllPairs o                       every element of o is the number of a pair that a place can hold
---     AllBelow o                       every element of o is a number that a place can hold
---     packed_below                     the code of at most n elements is below base ^ n
---     kept_below                       the code of those elements past a position that pass a test
---     in_rear b v o                     the code v after those elements of o that pass have gone into its last place, one after the other
---     rear_code, rear_below            what that code is, from nothing, and that it stays small
---     packed_append                    the code of two lists, one after the other
---     moved_joined, moved_small        the code after a move, from the codes of its two parts, and its bound
---     places_length, places_at_lem, places_below    how many places are read, what they hold, and that it is below base
---     position_within                  a position that is not refused is one of the record
---     no_pair_at, pair_shifted, pair_below    the pair at a position: none, as a shift finds it, and below base
---     rising_at, rising_below          the numbers from 1 on
---     places_packed, pairs_packed, packed_small    the code of an ordering holds it, and nothing else
---     moved_packed, priority_packed    a move and a priority are the same for the places of that code
---     marked_shifted, marked_masked    a pair is in a set, as a shift finds it, and as a mask with its bit alone
---     from_here, from_before           the places from a position on, and from the one before it
+--     AllPairs o                                        every element of o is the number of a pair that a place can hold
+--     AllBelow o                                        every element of o is a number that a place can hold
+--     packed_below                                      the code of at most n elements is below base ^ n
+--     kept_below                                        the code of those elements past a position that pass a test
+--     in_rear b v o                                     the code v after those elements of o that pass have gone into its last place, one after the other
+--     rear_code, rear_below                             what that code is, from nothing, and that it stays small
+--     packed_append                                     the code of two lists, one after the other
+--     moved_joined, moved_small                         the code after a move, from the codes of its two parts, and its bound
+--     places_length, places_at_lem, places_below        how many places are read, what they hold, and that it is below base
+--     position_within                                   a position that is not refused is one of the record
+--     no_pair_at, pair_shifted, pair_below              the pair at a position: none, as a shift finds it, and below base
+--     rising_at, rising_below                           the numbers from 1 on
+--     places_packed, pairs_packed, packed_small         the code of an ordering holds it, and nothing else
+--     moved_packed, priority_packed                     a move and a priority are the same for the places of that code
+--     marked_shifted, marked_masked                     a pair is in a set, as a shift finds it, and as a mask with its bit alone
+--     from_here, from_before                            the places from a position on, and from the one before it
 --     kept_turn, rear_turn, decided_turn, digit_turn    a turn at one position
---     digit_below                      a number with one digit more stays below the next power of ten
+--     digit_below                                       a number with one digit more stays below the next power of ten
 use mathlib.Core.Path.{◌≡◌, refl, sym, ap, ◌∙◌}
 use mathlib.Core.Bool.{Bool, true, false, not, ◌&&◌, ◌||◌, false≢true}
 use mathlib.Core.List.{List, [], ◌∷◌, ◌++◌, append-nil, append_assoc}

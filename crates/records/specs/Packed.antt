@@ -1,12 +1,12 @@
 -- Records as codes: an ordering of pairs with three bits for each place.
---     limit             the most pairs that a record holds
---     base              one more than the largest number that a place can hold
+--     limit              the most pairs that a record holds
+--     base               one more than the largest number that a place can hold
 --     is_pair i          test: i is the number of a pair
 --     is_marked set i    test: pair i is in the set: bit i - 1 is set; 0 is no pair
 --     marks_by p r       the marks whose prohibited pairs are the set p and whose required pairs are the set r
---     packed o          number: the code whose places hold o, the first pair lowest
+--     packed o           number: the code whose places hold o, the first pair lowest
 --     places_of n w      list: the first n places of a code
---     places w          list: the places of a record's code
+--     places w           list: the places of a record's code
 --     pairs_in w         list: the ordering that a record's code holds: its places that are used
 use Rattle.std.specs.Prelude.{Bool, not, ◌&&◌, List, [], ◌∷◌, ℕ, zero, suc, ◌+◌, ◌-◌, ◌*◌, ◌/◌, ◌%◌, eqb}
 use Rattle.rules.specs.Basics.{keep, bit}

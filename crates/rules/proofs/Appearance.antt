@@ -1,17 +1,17 @@
 -- Index appearance records and closed walks: the abstract theorem, with no table in it.
--- A walk is a list of marks, and it is closed if it carries the record back to itself. `closed-walk`: the largest priority of a closed
+-- A walk is a list of marks, and it is closed if it carries the record back to itself. `closed_walk`: the largest priority of a closed
 -- walk is even exactly if some pair of the record is never prohibited and once required on it.
---     moved_length, moved_occurs     a move keeps what a record holds
---     after x o                      what follows x in o
---     after_moved                    behind a pair that is not prohibited a move only drops the prohibited ones
---     drop_moved                     a tail in which nothing is prohibited stays as it is
+--     moved_length, moved_occurs                   a move keeps what a record holds
+--     after x o                                    what follows x in o
+--     after_moved                                  behind a pair that is not prohibited a move only drops the prohibited ones
+--     drop_moved                                   a tail in which nothing is prohibited stays as it is
 --     priority_none, priority_last, priority_is    the last pair with either mark decides the priority
---     once_length                    a list of different numbers from 1 to k has at most k
---     with_bounds                    one pair more cannot lower the priority found, nor lift it past its own position
---     priority_bound                 a priority is at most 2p + 1, p the length of the record
---     scan-*                         what the search for the priority can find, from any position on
+--     once_length                                  a list of different numbers from 1 to k has at most k
+--     with_bounds                                  one pair more cannot lower the priority found, nor lift it past its own position
+--     priority_bound                               a priority is at most 2p + 1, p the length of the record
+--     scan-*                                       what the search for the priority can find, from any position on
 --     even_satisfied, satisfied_even the two halves of the theorem
---     moved_same, priority_same      tests that agree on a record's pairs move it alike and give it the same priority
+--     moved_same, priority_same                    tests that agree on a record's pairs move it alike and give it the same priority
 use mathlib.Core.Path.{◌≡◌, refl, sym, ap, ◌∙◌}
 use mathlib.Core.Logic.{◌⊎◌, inl, inr, ⊎_elim}
 use mathlib.Core.Bool.{Bool, true, false, not, ◌||◌, false≢true}

@@ -1,12 +1,12 @@
 -- The entries of an array that joins one list for each row, whatever entries follow.
---     get_d_any                              below the length the default is not looked at
+--     get_d_any                                                     below the length the default is not looked at
 --     tabulate_length, tabulate_at, tabulate_last, tabulate_same    a tabulated list
---     cell_before, cell_same, cell_split    a place is the cell of one row and one letter only
---     cell_within, row_within, row_ends     a cell, the cells before a row and those of a row are among the cells of all rows
---     joined_length, joined_at              lists of one length, joined: the cell of row i and letter a is number i · m + a
---     cells_length, cells_at                one number for each letter of each row, joined
---     tabulate_none, joined_none            where nothing passes a test, in each place or in each list
---     mapped_at                             one number for each row
+--     cell_before, cell_same, cell_split                            a place is the cell of one row and one letter only
+--     cell_within, row_within, row_ends                             a cell, the cells before a row and those of a row are among the cells of all rows
+--     joined_length, joined_at                                      lists of one length, joined: the cell of row i and letter a is number i · m + a
+--     cells_length, cells_at                                        one number for each letter of each row, joined
+--     tabulate_none, joined_none                                    where nothing passes a test, in each place or in each list
+--     mapped_at                                                     one number for each row
 use mathlib.Core.Path.{◌≡◌, refl, sym, ap, ◌∙◌}
 use mathlib.Core.Bool.{Bool, false}
 use mathlib.Core.List.{List, [], ◌∷◌, ◌++◌, append_assoc, map}

@@ -1,5 +1,5 @@
 -- Sets of numbers as the bits of a number.
---     bit_or_lem, bit_and_lem              the bits of two numbers together, and those that both have
+--     bit_or_lem, bit_and_lem      the bits of two numbers together, and those that both have
 --     bit_one                      the bits of a number with one bit
 --     bit_masked                   a bit, as a mask with that bit alone finds it
 --     bit_none, bit_over           no bit of 0 is set, nor one above a number

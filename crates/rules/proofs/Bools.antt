@@ -1,9 +1,9 @@
 -- Case work on tests.
---     by b f g               the two cases of a test, each with its equation
---     clash                  a test that holds and fails proves anything
+--     by b f g                                the two cases of a test, each with its equation
+--     clash                                   a test that holds and fails proves anything
 --     or_cases, or_left, or_right, or_none    a disjunction taken apart, made, and refuted
---     and_both, and_parts    a conjunction made and taken apart
---     bool_ext               two tests that imply one another are equal
+--     and_both, and_parts                     a conjunction made and taken apart
+--     bool_ext                                two tests that imply one another are equal
 use mathlib.Core.Path.{◌≡◌, refl, sym, ◌∙◌}
 use mathlib.Core.Bool.{Bool, true, false, ◌&&◌, ◌||◌, true≢false}
 

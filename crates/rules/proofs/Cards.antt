@@ -1,8 +1,8 @@
 -- All cards with a star (RULES, "Cards") hold, by computation, and so does each that is cited.
---     cards_hold     every card of the list
---     card_holds     a card of the list
---     card_answers   a judged card: both judges give the card's answer, the second on what the translator leaves
---     card_arrays    a translation card of what the translator leaves: the arrays begin with the card's
+--     cards_hold      every card of the list
+--     card_holds      a card of the list
+--     card_answers    a judged card: both judges give the card's answer, the second on what the translator leaves
+--     card_arrays     a translation card of what the translator leaves: the arrays begin with the card's
 use mathlib.Core.Path.{◌≡◌, refl, sym, ap, subst, ◌∙◌}
 use mathlib.Core.List.{List, [], ◌∷◌}
 use Prim.Native.Nat.{ℕ, zero, suc, ◌<◌}

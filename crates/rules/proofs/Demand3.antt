@@ -2,12 +2,12 @@
 -- A system s with a keeper k that is lawful for a condition is explored from a start within a capacity that is not exceeded. The table
 -- of rows, whatever the entries past them in the arrays, is a system that projects onto s; on a closed walk every transition is
 -- inside, so the memory is carried along it and the largest priority is the keeper's; so closed walks agree, and with them words.
---     reached_fits                         every reachable row has a state, and a memory that fits it
---     target_at, priority_at_lem, source_at    what the arrays hold for a row and a letter
---     projects                             the table of rows projects onto s
---     walk_carried                         along a closed walk the rows carry the keeper's memory and priorities
+--     reached_fits                                                  every reachable row has a state, and a memory that fits it
+--     target_at, priority_at_lem, source_at                         what the arrays hold for a row and a letter
+--     projects                                                      the table of rows projects onto s
+--     walk_carried                                                  along a closed walk the rows carry the keeper's memory and priorities
 --     paths_agree, walks_agree, looped_words_agree, judges_agree    closed paths, closed walks, looped words and judges agree
---     demand_3                             all of it
+--     demand_3                                                      all of it
 use mathlib.Core.Path.{◌≡◌, refl, sym, ap, ap₂, ◌∙◌}
 use mathlib.Core.Bool.{Bool, true, false, not, ◌||◌}
 use mathlib.Core.List.{List, [], ◌∷◌, ◌++◌}

@@ -1,12 +1,12 @@
 -- What the exploration finds, over any plan whose sameness of rows is equality.
 --     place_found, place_least, place_most, place_append, place_added, place_same    the place of the first element that passes a test
---     Found                 what holds of the rows found at a moment of the exploration
---     found_with            one transition more keeps it
---     with_longer, with_row, by_next, by_grows    what a transition, and letters, leave of the rows found
---     from_on, from_stop    a row more is read, or none
---     explored              at the end all rows have been read, unless there are too many
---     rows_distinct         no row is found twice
---     rows_view             the rows found are the reachable ones, each once, in order of discovery; full exactly if more than c are reachable
+--     Found                                                                          what holds of the rows found at a moment of the exploration
+--     found_with                                                                     one transition more keeps it
+--     with_longer, with_row, by_next, by_grows                                       what a transition, and letters, leave of the rows found
+--     from_on, from_stop                                                             a row more is read, or none
+--     explored                                                                       at the end all rows have been read, unless there are too many
+--     rows_distinct                                                                  no row is found twice
+--     rows_view                                                                      the rows found are the reachable ones, each once, in order of discovery; full exactly if more than c are reachable
 use mathlib.Core.Path.{◌≡◌, refl, sym, ap, ◌∙◌, subst}
 use mathlib.Core.Logic.{◌↔◌, ◌⊎◌, inl, inr, ⊎_elim}
 use mathlib.Core.Bool.{Bool, true, false, ◌&&◌}

@@ -1,16 +1,16 @@
 -- Arrays that are written place by place from the front.
---     Filled P old new p                  below p each value of new is as P says, from p on new is as old
---     filled_none, filled_more            nothing is written yet; one place more
---     over_front, over_rest, over_length, over_is    an array with other contents at its front, place by place
---     over_at                             the same where each place has a value of its own
---     filled_over                         what a filled array is, where P gives each value
---     zeros_at                            a cleared array
+--     Filled P old new p                                    below p each value of new is as P says, from p on new is as old
+--     filled_none, filled_more                              nothing is written yet; one place more
+--     over_front, over_rest, over_length, over_is           an array with other contents at its front, place by place
+--     over_at                                               the same where each place has a value of its own
+--     filled_over                                           what a filled array is, where P gives each value
+--     zeros_at                                              a cleared array
 --     beyond_none, beyond_set, beyond_then, beyond_wider    what stays past the part that is written: nothing is written, one place is, one writing
---                                         after another, and past more
---     over_beyond                         the same of an array with other contents at its front
---     cells_over, front_over              an array with a number for each letter of each row at its front, or with what its first places are
---     cleared_none, cleared_more          nothing is cleared yet; one place more
---     padded_is, cleared_is, filled_is    an array with contents at its front and zeros after them
+--                                                           after another, and past more
+--     over_beyond                                           the same of an array with other contents at its front
+--     cells_over, front_over                                an array with a number for each letter of each row at its front, or with what its first places are
+--     cleared_none, cleared_more                            nothing is cleared yet; one place more
+--     padded_is, cleared_is, filled_is                      an array with contents at its front and zeros after them
 use mathlib.Core.Path.{◌≡◌, refl, sym, ap, ◌∙◌}
 use mathlib.Core.List.{List, [], ◌∷◌, ◌++◌, append-nil}
 use Prim.Native.Nat.{ℕ, zero, suc, ◌+◌, ◌-◌, ◌*◌, ◌<◌, ◌≤◌}

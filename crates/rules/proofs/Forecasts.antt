@@ -1,16 +1,16 @@
 -- The forecast bounds the rows and the priorities, for any system, any keeper and any number of pairs and states.
 --     sum_same, sum_zero, sum_add, sum_times, sum_grouped    sums over the numbers below a bound
---     sum_within, sum_place    numbers in stretches of different lengths: below the whole, and in one stretch at one place only
---     most_above, most_least, most_same    the largest over the numbers below a bound
---     Alike s f                claim: f is the same for a whole component
---     reached_alike            a whole component is reached, or nothing of it
---     over_by_state, most_by_state    a sum, or a maximum, state by state is the one component by component
---     rows_bounded             the rows of a lawful construction, where the memories at a state can be numbered
---     priorities_bounded       its priorities
---     pairs_alike              the pairs that count are as many in a whole component
---     rows_by_state, pairs_by_state    the forecast of a Rabin table, state by state
---     rows_within, priorities_within    no more rows are reachable than it says, and no priority is larger
---     forecast_means           what the figures bound, for every capacity
+--     sum_within, sum_place                                  numbers in stretches of different lengths: below the whole, and in one stretch at one place only
+--     most_above, most_least, most_same                      the largest over the numbers below a bound
+--     Alike s f                                              claim: f is the same for a whole component
+--     reached_alike                                          a whole component is reached, or nothing of it
+--     over_by_state, most_by_state                           a sum, or a maximum, state by state is the one component by component
+--     rows_bounded                                           the rows of a lawful construction, where the memories at a state can be numbered
+--     priorities_bounded                                     its priorities
+--     pairs_alike                                            the pairs that count are as many in a whole component
+--     rows_by_state, pairs_by_state                          the forecast of a Rabin table, state by state
+--     rows_within, priorities_within                         no more rows are reachable than it says, and no priority is larger
+--     forecast_means                                         what the figures bound, for every capacity
 use mathlib.Core.Path.{◌≡◌, refl, sym, ap, ap₂, ◌∙◌, fun_ext}
 use mathlib.Core.Bool.{Bool, true, false}
 use mathlib.Core.List.{List}

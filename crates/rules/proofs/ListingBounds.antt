@@ -1,9 +1,9 @@
 -- How long a listing is.
---     field_length, optional_length    the field of a number with few digits
+--     field_length, optional_length               the field of a number with few digits
 --     line_length, head_length, refused_length    a line, the head and the line of a refusal, where every number is within its range
---     step_priority_bound     a priority is at most 2k + 1, k the table's pairs
---     listing_bound_lem           a listing is at most as long as its bound says, for all bytes, capacities and lengths of the arrays
---     listing_whole           in an array with room for the bound the listing is written whole
+--     step_priority_bound                         a priority is at most 2k + 1, k the table's pairs
+--     listing_bound_lem                           a listing is at most as long as its bound says, for all bytes, capacities and lengths of the arrays
+--     listing_whole                               in an array with room for the bound the listing is written whole
 use mathlib.Core.Path.{◌≡◌, refl, ap, ◌∙◌}
 use mathlib.Core.Bool.{Bool, true, false}
 use mathlib.Core.List.{List, [], append-nil}

@@ -1,7 +1,7 @@
 -- Listings by computation, with the listing program's capacity and four arrays for two letters.
---     text_of_t, listing_of_T                 the table T: its nine lines, byte for byte
---     text_of_missing, listing_of_missing     an empty record and a missing transition: dashes
---     text_of_short, listing_of_short         an array below its size: a refusal
+--     text_of_t, listing_of_T                the table T: its nine lines, byte for byte
+--     text_of_missing, listing_of_missing    an empty record and a missing transition: dashes
+--     text_of_short, listing_of_short        an array below its size: a refusal
 use mathlib.Core.Path.{◌≡◌, refl}
 use mathlib.Core.List.{List, [], ◌∷◌, ◌++◌}
 use Prim.Native.Nat.{ℕ}

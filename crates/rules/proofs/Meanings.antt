@@ -1,9 +1,9 @@
 -- What the results of the public calls mean: the equalities of `Says` in terms of paths, reachable rows, orderings, missing and recurring transitions.
 --     components_are, components_over, components_mean    the numbers of components, and an array that holds them
---     step_is                      what a row of a Rabin table does by a letter, whole
---     translation_means            the rows, their steps, their records and fullness
---     judged_as                    the answer to a looped word, for any system and any condition
---     rabin_means, parity_means    the answers of both judges
+--     step_is                                             what a row of a Rabin table does by a letter, whole
+--     translation_means                                   the rows, their steps, their records and fullness
+--     judged_as                                           the answer to a looped word, for any system and any condition
+--     rabin_means, parity_means                           the answers of both judges
 use mathlib.Core.Path.{◌≡◌, refl, sym, ap, ◌∙◌}
 use mathlib.Core.Logic.{◌↔◌}
 use mathlib.Core.Bool.{Bool, true, false, false≢true, true≢false}

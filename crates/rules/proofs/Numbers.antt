@@ -1,8 +1,8 @@
 -- A record's number determines the record, and has as many digits as the record has pairs.
---     is_digit i                1 to 9: what can stand for a pair in a decimal number, so that no pair is lost at the front
---     decimal_determines       two lists of digits with the same decimal number are the same
---     decimal_below            the decimal number of n digits is below the n-th power of ten
---     record_determined        two orderings of pairs 1 to 9 with the same number are the same record
+--     is_digit i            1 to 9: what can stand for a pair in a decimal number, so that no pair is lost at the front
+--     decimal_determines    two lists of digits with the same decimal number are the same
+--     decimal_below         the decimal number of n digits is below the n-th power of ten
+--     record_determined     two orderings of pairs 1 to 9 with the same number are the same record
 use mathlib.Core.Path.{◌≡◌, refl, sym, ap, ap₂, ◌∙◌}
 use mathlib.Core.Bool.{Bool, true, false, not, ◌&&◌}
 use mathlib.Core.List.{List, [], ◌∷◌, reverse, reverse_aux, reverse-reverse}

@@ -7,7 +7,7 @@
 --     reached_state        every reachable row stands at a state
 --     pair_counts          a pair that a closed walk satisfies counts where the walk runs
 --     table_same           sameness of a table's rows is equality
---     table_rows_lem           the rows of a table's translation are exactly the reachable ones, each once, in order of discovery
+--     table_rows_lem       the rows of a table's translation are exactly the reachable ones, each once, in order of discovery
 --     rabin_lawful         all that a construction must show
 use mathlib.Core.Path.{◌≡◌, refl, sym, ap, ap₂, ◌∙◌, fun_ext}
 use mathlib.Core.Bool.{Bool, true, not, ◌&&◌, false≢true, and-false}

@@ -1,14 +1,14 @@
 -- Reach and components, for any number of states.
---     via_link, via_join, via_least       Warshall's closure holds the links, is closed under joining at a state below k, and is the least such
---     path_append                         paths join
---     path_reaches, reaches_view          p reaches q exactly if a path leads from p to q
---     together_view                       two states share a component exactly if a path leads from each to the other
---     together_refl, together_sym, together_trans    sharing a component is an equivalence
---     component_together, component_least, component_same    component_of is the smallest state of the component, and the same for all of it
+--     via_link, via_join, via_least                             Warshall's closure holds the links, is closed under joining at a state below k, and is the least such
+--     path_append                                               paths join
+--     path_reaches, reaches_view                                p reaches q exactly if a path leads from p to q
+--     together_view                                             two states share a component exactly if a path leads from each to the other
+--     together_refl, together_sym, together_trans               sharing a component is an equivalence
+--     component_together, component_least, component_same       component_of is the smallest state of the component, and the same for all of it
 --     together_component, inside_component, within_component    what shares a component, what is inside and which tests that passes, by the numbers
---                                         of components alone
---     inside_parts, inside_of_return      what an inside transition is; one with a way back is inside
---     Within, within_view, within_same    a test that some inside transition of a component passes, the same for the whole component
+--                                                               of components alone
+--     inside_parts, inside_of_return                            what an inside transition is; one with a way back is inside
+--     Within, within_view, within_same                          a test that some inside transition of a component passes, the same for the whole component
 use mathlib.Core.Path.{◌≡◌, refl, sym}
 use mathlib.Core.Logic.{◌↔◌}
 use mathlib.Core.Bool.{Bool, true, ◌&&◌}

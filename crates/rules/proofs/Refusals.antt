@@ -1,15 +1,15 @@
 -- What follows where nothing is refused.
 --     first_none, first_zero, when_none    a chain of refusals that gives none
---     in_range         a size from 1 to the most, and what is tested after it
---     size_facts       what holds of sizes within their ranges
---     table_facts      what holds of a table that is well formed
---     word_facts       what holds of a word with nothing to refuse
---     parity_facts     what holds of a parity table with nothing to refuse
---     parity_none      a parity table with nothing to refuse
---     array_facts      what holds of a capacity in range and of lent arrays that are long enough, and arrays_enough the other way
---     translation_facts    what holds of a table and of lent arrays that are translated
---     translated_none    a table that is translated, with room in the arrays for any letters: nothing to refuse
---     fault_below, translation_below    the refusals of a table are those up to the marks', of a translation those up to full
+--     in_range                             a size from 1 to the most, and what is tested after it
+--     size_facts                           what holds of sizes within their ranges
+--     table_facts                          what holds of a table that is well formed
+--     word_facts                           what holds of a word with nothing to refuse
+--     parity_facts                         what holds of a parity table with nothing to refuse
+--     parity_none                          a parity table with nothing to refuse
+--     array_facts                          what holds of a capacity in range and of lent arrays that are long enough, and arrays_enough the other way
+--     translation_facts                    what holds of a table and of lent arrays that are translated
+--     translated_none                      a table that is translated, with room in the arrays for any letters: nothing to refuse
+--     fault_below, translation_below       the refusals of a table are those up to the marks', of a translation those up to full
 use mathlib.Core.Path.{◌≡◌, refl}
 use mathlib.Core.Bool.{Bool, true, false, not, ◌&&◌, ◌||◌}
 use mathlib.Core.List.{List}

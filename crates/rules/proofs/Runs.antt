@@ -1,20 +1,20 @@
 -- What a run over a looped word means: when it stops, and which transitions recur; for any transition system.
 --     repeated_add, repeated_more, repeated_length, repeated_letters    a list repeated
---     path_split, path_end, path_below    a path taken apart; where it ends
---     goes_path, goes_stop, goes_view    reading a word either follows a path or meets a missing transition
---     path_or_stop, pass_append    not both; the transitions of two words, joined
---     stop_after        a path, then a missing transition
---     stops_view        the long run stopped after i letters exactly if the word's run meets a missing transition after i letters
---     Steady            a run that never stops: it reads the loop again and again, and some repetition begins where an earlier one began
---     path_turns, turns_path, turns_below, round_back    the repetitions of the loop along a path
---     steady_from       two repetitions that begin at the same state: it never stops
---     steady            not stopped after as many repetitions as there are states: never
---     steady_path, steady_later    such a run, from its start or from later on
---     takes, takes_recurring    the repetitions that take a transition which passes a test
---     Endless, endless_path, endless_run, endless_meets_none    the same for a whole word, lead-in and loop
---     run_view          a word either has such a run or stops
---     endless_window    from a repetition that begins where it begins again d later, d repetitions or more take exactly the recurring transitions
---     recurs_view       a transition is among the recurring ones exactly if for every r it is taken in some repetition after the r-th
+--     path_split, path_end, path_below                                  a path taken apart; where it ends
+--     goes_path, goes_stop, goes_view                                   reading a word either follows a path or meets a missing transition
+--     path_or_stop, pass_append                                         not both; the transitions of two words, joined
+--     stop_after                                                        a path, then a missing transition
+--     stops_view                                                        the long run stopped after i letters exactly if the word's run meets a missing transition after i letters
+--     Steady                                                            a run that never stops: it reads the loop again and again, and some repetition begins where an earlier one began
+--     path_turns, turns_path, turns_below, round_back                   the repetitions of the loop along a path
+--     steady_from                                                       two repetitions that begin at the same state: it never stops
+--     steady                                                            not stopped after as many repetitions as there are states: never
+--     steady_path, steady_later                                         such a run, from its start or from later on
+--     takes, takes_recurring                                            the repetitions that take a transition which passes a test
+--     Endless, endless_path, endless_run, endless_meets_none            the same for a whole word, lead-in and loop
+--     run_view                                                          a word either has such a run or stops
+--     endless_window                                                    from a repetition that begins where it begins again d later, d repetitions or more take exactly the recurring transitions
+--     recurs_view                                                       a transition is among the recurring ones exactly if for every r it is taken in some repetition after the r-th
 use mathlib.Core.Path.{◌≡◌, refl, sym, ap, ◌∙◌, subst}
 use mathlib.Core.Logic.{◌↔◌, ◌⊎◌, inl, inr, ⊎_elim}
 use mathlib.Core.Bool.{Bool, true, false, ◌||◌, true≢false, false≢true}

@@ -1,14 +1,14 @@
 -- Lists as sets of what passes a test, numbers below a bound, the largest of a set.
---     any_append, any_map              tests over a joined and a mapped list
---     any_fails                        a test that nothing passes
---     none_at, fails_at                a test that no place of a list passes
---     any_turn, any_end                a test over a list that is gone through from the front
---     any_find, any_intro, any_none    a test over a list of numbers, by its elements
---     below_find, below_intro, below_same    a test over the numbers below a bound
---     apart                            a test that distinguishes two numbers
---     least_passes, least_least        the first number that passes a test
+--     any_append, any_map                          tests over a joined and a mapped list
+--     any_fails                                    a test that nothing passes
+--     none_at, fails_at                            a test that no place of a list passes
+--     any_turn, any_end                            a test over a list that is gone through from the front
+--     any_find, any_intro, any_none                a test over a list of numbers, by its elements
+--     below_find, below_intro, below_same          a test over the numbers below a bound
+--     apart                                        a test that distinguishes two numbers
+--     least_passes, least_least                    the first number that passes a test
 --     largest_over, largest_under, largest_same    the largest of a set, from both sides; it depends on the set alone
---     largest_is                       the number that is above n exactly if some member of the set is
+--     largest_is                                   the number that is above n exactly if some member of the set is
 use mathlib.Core.Path.{◌≡◌, refl, sym, ap, ◌∙◌}
 use mathlib.Core.Bool.{Bool, true, false, ◌||◌, or_assoc, or-false, false≢true}
 use mathlib.Core.List.{List, [], ◌∷◌, ◌++◌, map}

@@ -1,11 +1,11 @@
 -- Texts: numbers in decimal, texts one after the other, and writing them into an array.
---     numeral_one, numeral_more     one digit; the digits before the last, then the last
---     numeral_length                a number below a power of ten has no more digits than the power says
---     each_split, each_more         some texts and those after them; one text more
---     each_same                     texts that are equal one by one
---     each_length                   texts of a bounded length
---     put_append                    a text in two parts is written part by part
---     put_front                     a text that fits is the front of the array, whole
+--     numeral_one, numeral_more    one digit; the digits before the last, then the last
+--     numeral_length               a number below a power of ten has no more digits than the power says
+--     each_split, each_more        some texts and those after them; one text more
+--     each_same                    texts that are equal one by one
+--     each_length                  texts of a bounded length
+--     put_append                   a text in two parts is written part by part
+--     put_front                    a text that fits is the front of the array, whole
 use mathlib.Core.Path.{◌≡◌, refl, ◌∙◌}
 use mathlib.Core.List.{List, [], ◌∷◌, ◌++◌, append_assoc, append-nil}
 use Prim.Native.Nat.{ℕ, zero, suc, ◌+◌, ◌*◌, ◌/◌, ◌%◌, ◌^◌, ◌≤◌, ◌<◌}

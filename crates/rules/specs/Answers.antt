@@ -1,10 +1,10 @@
 -- A judge's answer to a looped word, over any transition system and any condition on its recurring transitions.
---     Answer                        two numbers, our own: 0 accepts, 1 rejects, 2 stops with the letters read, 3 refused with its number
+--     Answer                                  two numbers, our own: 0 accepts, 1 rejects, 2 stops with the letters read, 3 refused with its number
 --     accepts, rejects, stops n, refused n    the four answers
---     judged_by s q lead l good      answer: stops, or accepts exactly if the recurring transitions are good
---     Verdict s q lead l good x     claim: x is what the recurring transitions decide, those for which `Recurs` holds
---     JudgedAs s q lead l good x    claim: x is the answer: stops exactly if the run meets a missing transition, else that verdict
---     unless_refused f x             answer: x, unless there is a refusal f
+--     judged_by s q lead l good               answer: stops, or accepts exactly if the recurring transitions are good
+--     Verdict s q lead l good x               claim: x is what the recurring transitions decide, those for which `Recurs` holds
+--     JudgedAs s q lead l good x              claim: x is the answer: stops exactly if the run meets a missing transition, else that verdict
+--     unless_refused f x                      answer: x, unless there is a refusal f
 use Rattle.std.specs.Prelude.{◌≡◌, ◌↔◌, Bool, true, List, ℕ, leb}
 use Rattle.rules.specs.Basics.{pick, any}
 use Rattle.rules.specs.Systems.{System}

@@ -1,24 +1,24 @@
 -- Choices, tests over lists and numbers, tabulated lists. Nothing here knows automata.
---     pick b x y         x where b holds, else y
---     first_of a b        number: the first of the two that is not 0: refusals in their order
---     when b n           number: n where b holds, else 0
---     any b xs           test: some element of xs passes the test b
---     SameSet xs ys      claim: xs and ys hold the same elements: every test passes in both or in neither
---     any_below n b       test: some number below n passes the test b
---     sum_below n f       number: the sum of f i over the numbers i below n
---     most_below n f      number: the largest f i over the numbers i below n, 0 if there is none
---     is_in x xs          test: x is in xs
---     occurs x xs        number: how often x is in xs
---     keep b xs          list: the elements that pass the test b, in their order
---     least f i b        number: the first of i, i + 1 .. that passes b, looked for f times
---     tabulate f i g     list: g i, g (i + 1) .., f of them
---     joined g xs        list: the lists g x for each x of xs, one after the other
---     repeated n xs      list: xs, n times over
---     iter f n p         number: f applied n times to p
---     largest g xs       number: the largest g x, 0 if there is none
---     is_even n           test: n is even
---     bit i v            test: bit i of v is set, counted from 0
---     as_bits k b         number: its bits are the numbers below k that pass the test b
+--     pick b x y        x where b holds, else y
+--     first_of a b      number: the first of the two that is not 0: refusals in their order
+--     when b n          number: n where b holds, else 0
+--     any b xs          test: some element of xs passes the test b
+--     SameSet xs ys     claim: xs and ys hold the same elements: every test passes in both or in neither
+--     any_below n b     test: some number below n passes the test b
+--     sum_below n f     number: the sum of f i over the numbers i below n
+--     most_below n f    number: the largest f i over the numbers i below n, 0 if there is none
+--     is_in x xs        test: x is in xs
+--     occurs x xs       number: how often x is in xs
+--     keep b xs         list: the elements that pass the test b, in their order
+--     least f i b       number: the first of i, i + 1 .. that passes b, looked for f times
+--     tabulate f i g    list: g i, g (i + 1) .., f of them
+--     joined g xs       list: the lists g x for each x of xs, one after the other
+--     repeated n xs     list: xs, n times over
+--     iter f n p        number: f applied n times to p
+--     largest g xs      number: the largest g x, 0 if there is none
+--     is_even n         test: n is even
+--     bit i v           test: bit i of v is set, counted from 0
+--     as_bits k b       number: its bits are the numbers below k that pass the test b
 use Rattle.std.specs.Prelude.{◌≡◌, Bool, true, false, ◌||◌, List, [], ◌∷◌, ◌++◌, ℕ, zero, suc, ◌+◌, ◌/◌, ◌%◌, ◌^◌, max, eqb}
 
 abbrev pub pick : {A : Type 0} → Bool → A → A → A

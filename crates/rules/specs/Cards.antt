@@ -1,21 +1,21 @@
--- The cards with a star (RULES, "Cards"), and the table T: examples shown of the rules themselves, jointly, by `cards-hold` (proofs/Cards). The
+-- The cards with a star (RULES, "Cards"), and the table T: examples shown of the rules themselves, jointly, by `cards_hold` (proofs/Cards). The
 -- program `cards` runs them, and its contracts cite the list.
---     Card                      one example:
---     judged bs lead l x        the table's judge gives x for the word, and so does the judge of its translation
---     moves o ps o'             the record o, with the pairs ps prohibited, becomes o'
---     translates bs x           the table is translated, and x are the targets, the priorities, the source states and the record numbers
---     counted bs q o            the pairs that count in q's component are o
+--     Card                          one example:
+--     judged bs lead l x            the table's judge gives x for the word, and so does the judge of its translation
+--     moves o ps o'                 the record o, with the pairs ps prohibited, becomes o'
+--     translates bs x               the table is translated, and x are the targets, the priorities, the source states and the record numbers
+--     counted bs q o                the pairs that count in q's component are o
 --     CardJudged, CardTranslated    claims: what the cards of these two kinds say
---     Holds c                   claim: what the card says
---     AllHold cs                claim: every card of a list holds
---     table_t                    bytes: the table T: two states, two letters, two pairs
---     self_loop k p r            bytes: one state and one letter that loops on it, k pairs, a prohibited and a required byte
---     only_crossing              bytes: state 0 goes to 1 with both bits of pair 1, state 1 to itself with none
---     one_missing                bytes: one state: letter 0 loops, letter 1 is missing
---     cards                     the list
---     CardsHold                 claim: every card of the list holds
---     IsCard c                  claim: c is a card of the list, the one with this number
---     Begins x o rows           claim: there are as many rows as x has, and the arrays o begin with x
+--     Holds c                       claim: what the card says
+--     AllHold cs                    claim: every card of a list holds
+--     table_t                       bytes: the table T: two states, two letters, two pairs
+--     self_loop k p r               bytes: one state and one letter that loops on it, k pairs, a prohibited and a required byte
+--     only_crossing                 bytes: state 0 goes to 1 with both bits of pair 1, state 1 to itself with none
+--     one_missing                   bytes: one state: letter 0 loops, letter 1 is missing
+--     cards                         the list
+--     CardsHold                     claim: every card of the list holds
+--     IsCard c                      claim: c is a card of the list, the one with this number
+--     Begins x o rows               claim: there are as many rows as x has, and the arrays o begin with x
 use Rattle.std.specs.Prelude.{◌≡◌, true, List, [], ◌∷◌, ℕ, ◌<◌, length, get_or, take}
 use Rattle.rules.specs.Basics.{is_in}
 use Rattle.rules.specs.Limits.{max_rows}

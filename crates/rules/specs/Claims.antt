@@ -1,6 +1,6 @@
 -- Demand 3: no looped word and no closed walk distinguishes the two tables.
---     table_rows bs c          list: the rows of the translation of the table that the bytes give, as far as the capacity c lets them be found
---     row_targets bs c         lists: its four arrays, each without the entries past the rows
+--     table_rows bs c         list: the rows of the translation of the table that the bytes give, as far as the capacity c lets them be found
+--     row_targets bs c        lists: its four arrays, each without the entries past the rows
 --     row_priorities bs c
 --     source_states bs c
 --     record_numbers bs c

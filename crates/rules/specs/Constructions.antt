@@ -1,10 +1,10 @@
 -- What a construction has to show, stated once for every kind of memory, and what follows from it: demand 3 (proofs/Demand3).
---     memory_after s k q m w     memory: m carried from q along the letters of w
---     largest_along s k q m w    number: the largest priority on that way
---     Lawful s k good Fits      claim: a keeper k over the system s decides `good`, a condition on sets of transitions; Fits q m says that m
---                               can be the memory at q
+--     memory_after s k q m w              memory: m carried from q along the letters of w
+--     largest_along s k q m w             number: the largest priority on that way
+--     Lawful s k good Fits                claim: a keeper k over the system s decides `good`, a condition on sets of transitions; Fits q m says that m
+--                                         can be the memory at q
 --     Faithful s start good n ts ps ss    claim: n rows with these targets, priorities and source states agree with the system and the
---                               condition: on looped words of any length, in the judges' answers, and on closed walks
+--                                         condition: on looped words of any length, in the judges' answers, and on closed walks
 use Rattle.std.specs.Prelude.{◌≡◌, Bool, true, false, List, [], ◌∷◌, ℕ, ◌<◌, max, length}
 use Rattle.rules.specs.Basics.{SameSet, is_even}
 use Rattle.rules.specs.Systems.{System, is_inside, Path}

@@ -1,13 +1,13 @@
 -- The forecast: figures from a table alone that its translation never exceeds (RULES, "Forecast").
---     factorial n                  number: 1 · 2 · .. · n
---     names_reached s start q       test: q is the smallest state of a component that is reachable from the start; it stands for it
---     component_size s q            number: the states of q's component
---     over_components s start f     number: over the components reachable from the start, the sum of states times f of the component
+--     factorial n                    number: 1 · 2 · .. · n
+--     names_reached s start q        test: q is the smallest state of a component that is reachable from the start; it stands for it
+--     component_size s q             number: the states of q's component
+--     over_components s start f      number: over the components reachable from the start, the sum of states times f of the component
 --     most_in_component s start f    number: the largest f of one of these components
---     pairs_at t q                  number: the pairs that count in q's component
---     forecast_rows t               number: over the components reachable from the start, the sum of states times the factorial of the pairs
---                                  that count
---     forecast_pairs t              number: the most pairs that count in any one of these components
+--     pairs_at t q                   number: the pairs that count in q's component
+--     forecast_rows t                number: over the components reachable from the start, the sum of states times the factorial of the pairs
+--                                    that count
+--     forecast_pairs t               number: the most pairs that count in any one of these components
 use Rattle.std.specs.Prelude.{Bool, ◌&&◌, ℕ, zero, suc, ◌*◌, eqb, length}
 use Rattle.rules.specs.Basics.{when, sum_below, most_below}
 use Rattle.rules.specs.Systems.{System, reaches, together, component_of}

@@ -1,6 +1,6 @@
 -- Both judges (they decide whether an automaton accepts a looped word), their refusals, and the rest of a piece.
 --     satisfies_pair t i xs          test: the set of transitions xs satisfies pair i (a Rabin pair)
---     satisfies t xs                test: it satisfies the table
+--     satisfies t xs                 test: it satisfies the table
 --     rabin_run t lead l             answer of a Rabin table to a word of letters, of any length
 --     parity_system n m ts           system: the transitions of a parity table of n rows
 --     priority_at m ps x             number: the priority of the transition x of a parity table
@@ -8,7 +8,7 @@
 --     parity_run n m ts ps lead l    answer of a parity table to a word of letters, of any length
 --     word_fault m lead l            refusal of a word: 10, 9 or 0
 --     parity_fault n m ts ps         refusal of a parity table: 11 or 0
---     rabin_judge, parity_judge       the answers with their refusals
+--     rabin_judge, parity_judge      the answers with their refusals
 --     rest_of lead l i               list: the letters from place i of the word to the end of its piece
 use Rattle.std.specs.Prelude.{Bool, not, ◌&&◌, ◌||◌, List, ℕ, suc, ◌-◌, ◌*◌, eqb, ltb, length, get_or, take, drop}
 use Rattle.rules.specs.Basics.{pick, any, any_below, first_of, when, largest, is_even}

@@ -3,16 +3,16 @@
 --     optional none n end             text: the same, a dash for the number where there is none
 --     line i q r a t p                text: the line of row i with source state q and record number r, and of letter a with target t and
 --                                     priority p; an empty record, and target and priority of a missing transition, are dashes
---     line_at m ts ps i q r a          text: the line of row i and letter a, its target and its priority read from ts and ps
---     row_lines m ts ps i q r          text: the lines of row i, m letters rising
---     lines_at m ts ps ss es i         text: the lines of row i, its source state and its record number read from ss and es
+--     line_at m ts ps i q r a         text: the line of row i and letter a, its target and its priority read from ts and ps
+--     row_lines m ts ps i q r         text: the lines of row i, m letters rising
+--     lines_at m ts ps ss es i        text: the lines of row i, its source state and its record number read from ss and es
 --     lines n m ts ps ss es           text: the lines of rows 0 to n - 1
 --     head n m k                      text: the first line: rows, letters and pairs
---     refusal_line f                   text: the line of the refusal f
---     table_listing bs c               text: the head and the lines of the table that the bytes say, translated with the capacity c
+--     refusal_line f                  text: the line of the refusal f
+--     table_listing bs c              text: the head and the lines of the table that the bytes say, translated with the capacity c
 --     listing bs c a b d e            text: the whole, where the four lent arrays have the lengths a, b, d and e
---     rows_listed bs c a b d e         number: the rows listed, 0 on a refusal
---     listing_bound c m                number: the most bytes of a listing with the capacity c and m letters, 10 for the head and 26 for each line;
+--     rows_listed bs c a b d e        number: the rows listed, 0 on a refusal
+--     listing_bound c m               number: the most bytes of a listing with the capacity c and m letters, 10 for the head and 26 for each line;
 --                                     no more letters are listed than a table may have
 --     ListingSays bs c x x' o o' r    claim: listing leaves in the four arrays what the translator leaves, x', and in o the text as far as it
 --                                     fits; r is the length of the whole text, which the bound holds

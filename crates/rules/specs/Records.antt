@@ -1,19 +1,19 @@
 -- Index appearance records: an ordering of pair numbers, positions counted from 1.
---     Marks                       record of two tests: which pairs a transition prohibits and which it requires
---     as_they_stood                 the arrangement that keeps the order that they had among themselves
---     moved arr p o               list: the pairs of o that p picks move to the front, arranged by arr, and the others follow in their order
---     Rearranges arr              claim: arr keeps every element, as often as it occurs
+--     Marks                        record of two tests: which pairs a transition prohibits and which it requires
+--     as_they_stood                the arrangement that keeps the order that they had among themselves
+--     moved arr p o                list: the pairs of o that p picks move to the front, arranged by arr, and the others follow in their order
+--     Rearranges arr               claim: arr keeps every element, as often as it occurs
 --     priority_with p m i best     number: what pair i at position p makes of the priority found before it
 --     priority_from p m o best     number: the same where o begins at position p of a record and best is the priority found before it
---     priority m o                number: from the record before the move: with p the largest position of a pair with either mark, 1 if there
---                                 is none, 2p + 1 if that pair is prohibited, else 2p
+--     priority m o                 number: from the record before the move: with p the largest position of a pair with either mark, 1 if there
+--                                  is none, 2p + 1 if that pair is prohibited, else 2p
 --     has_mark m i                 test: pair i has either mark
---     PriorityIs m o x            claim: x is that priority: the last pair of o with either mark decides it, 1 if there is none
+--     PriorityIs m o x             claim: x is that priority: the last pair of o with either mark decides it, 1 if there is none
 --     moved_along arr ms o         list: the record o after a walk whose transitions have the marks ms
 --     largest_priority arr ms o    number: the largest priority on that walk
---     satisfied ms i              test: pair i is never prohibited and at least once required on the walk
+--     satisfied ms i               test: pair i is never prohibited and at least once required on the walk
 --     decimal_from v o             number: the digits of v, then the pair numbers of o
---     decimal o                   number: the pair numbers read as one decimal number, 0 if there are none
+--     decimal o                    number: the pair numbers read as one decimal number, 0 if there are none
 --     same_order o o'              test: the two hold the same pairs in the same order
 use Rattle.std.specs.Prelude.{◌≡◌, Bool, true, false, not, ◌&&◌, ◌||◌, List, [], ◌∷◌, ◌++◌, ℕ, suc, ◌+◌, ◌*◌, max, eqb, length}
 use Rattle.rules.specs.Basics.{pick, any, occurs, keep}

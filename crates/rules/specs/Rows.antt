@@ -1,39 +1,39 @@
 -- Rows and their discovery, and the arrays of a table of rows; over any kind of row.
---     Step                          record: what a row does by a letter: whether the transition is there, the row it leads to, its priority
---     Plan                          record: what is explored: the letters, the first row, the step, and when two rows are the same
---     SameIsEqual g                 claim: sameness of rows is equality
---     place_of b xs                  number: the place of the first element that passes b, past the end for none
---     number_of g r rs               number: that of the first row of rs that is the same as r, past the end for absent
---     rows_with g rs r a             list: rs after the row r is read by the letter a: its target added at the end, if it is there and absent
---     found_by f a g r rs            list: rs after r is read by the letters a, a + 1 .., f of them
---     found_from f i g c rs          list: rs after the rows i, i + 1 .. are read, f of them at most, as long as there are such and no more than
---                                   c
---     rows_of g c                    list: the reachable rows in order of discovery, rows read by number and letters rising within each; no
---                                   further row is read once there are more than c
---     is_full g c                    test: more than c rows were found
---     row_at g rs i                  row number i
---     Reached g r                   claim: some letters lead from the first row to r
---     Distinct g rs                 claim: no row is twice in rs
---     Earlier j b i a               claim: row j is read by the letter b before row i is by a: rows by number, letters rising within each
---     Discovered g rs k             claim: row k is what a transition of an earlier row leads to, and every transition that is read earlier
---                                   leads to a row numbered below k
---     MoreThan g c                  claim: more than c different rows are reachable
---     RowsAre g c                   claim: the rows found are exactly the reachable ones, each once, in order of discovery, unless there are
---                                   more than c, which is full
---     target_number g none rs r a    number: that of the row to which r leads by a, `none` where the transition is missing
+--     Step                                          record: what a row does by a letter: whether the transition is there, the row it leads to, its priority
+--     Plan                                          record: what is explored: the letters, the first row, the step, and when two rows are the same
+--     SameIsEqual g                                 claim: sameness of rows is equality
+--     place_of b xs                                 number: the place of the first element that passes b, past the end for none
+--     number_of g r rs                              number: that of the first row of rs that is the same as r, past the end for absent
+--     rows_with g rs r a                            list: rs after the row r is read by the letter a: its target added at the end, if it is there and absent
+--     found_by f a g r rs                           list: rs after r is read by the letters a, a + 1 .., f of them
+--     found_from f i g c rs                         list: rs after the rows i, i + 1 .. are read, f of them at most, as long as there are such and no more than
+--                                                   c
+--     rows_of g c                                   list: the reachable rows in order of discovery, rows read by number and letters rising within each; no
+--                                                   further row is read once there are more than c
+--     is_full g c                                   test: more than c rows were found
+--     row_at g rs i                                 row number i
+--     Reached g r                                   claim: some letters lead from the first row to r
+--     Distinct g rs                                 claim: no row is twice in rs
+--     Earlier j b i a                               claim: row j is read by the letter b before row i is by a: rows by number, letters rising within each
+--     Discovered g rs k                             claim: row k is what a transition of an earlier row leads to, and every transition that is read earlier
+--                                                   leads to a row numbered below k
+--     MoreThan g c                                  claim: more than c different rows are reachable
+--     RowsAre g c                                   claim: the rows found are exactly the reachable ones, each once, in order of discovery, unless there are
+--                                                   more than c, which is full
+--     target_number g none rs r a                   number: that of the row to which r leads by a, `none` where the transition is missing
 --     all_targets g none rs, all_priorities g rs    lists: those of each row, joined
---     CellsRead g none rs p ts ps   claim: the cells below p are read: ts has the number of the row to which each leads among rs, `none` where
---                                   the transition is missing, and ps its priority
---     Row                           record: a source state with a memory (a state of the parity automaton)
---     row q m                       the row of state q and memory m
---     sources rs                    list: the source state of each row
---     Keeper                        record: a kind of memory: what it is where a component is entered, how it moves along an inside transition,
---                                   the priority of that transition, and when two memories are the same
---     missing_priority, crossing_priority    the priorities of a missing and of a crossing transition
---     missing_step, inside_step, crossing_step    the steps of the three kinds of transition; a crossing enters its component anew
---     step_of s k r a                the step of a row of a system with a keeper: one of these three
---     same_row k r r'                test: the two have the same state and the same memory
---     plan_of s q k                  the plan of a system with a keeper, from state q
+--     CellsRead g none rs p ts ps                   claim: the cells below p are read: ts has the number of the row to which each leads among rs, `none` where
+--                                                   the transition is missing, and ps its priority
+--     Row                                           record: a source state with a memory (a state of the parity automaton)
+--     row q m                                       the row of state q and memory m
+--     sources rs                                    list: the source state of each row
+--     Keeper                                        record: a kind of memory: what it is where a component is entered, how it moves along an inside transition,
+--                                                   the priority of that transition, and when two memories are the same
+--     missing_priority, crossing_priority           the priorities of a missing and of a crossing transition
+--     missing_step, inside_step, crossing_step      the steps of the three kinds of transition; a crossing enters its component anew
+--     step_of s k r a                               the step of a row of a system with a keeper: one of these three
+--     same_row k r r'                               test: the two have the same state and the same memory
+--     plan_of s q k                                 the plan of a system with a keeper, from state q
 use Rattle.std.specs.Prelude.{◌≡◌, ◌↔◌, ◌⊎◌, Bool, true, false, ◌&&◌, List, [], ◌∷◌, ◌++◌, map, ℕ, zero, suc, ◌<◌, eqb, ltb, leb, length, get_or}
 use Rattle.rules.specs.Basics.{pick, tabulate, joined}
 use Rattle.rules.specs.Systems.{System, cell, is_inside}

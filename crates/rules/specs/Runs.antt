@@ -1,28 +1,28 @@
 -- Looped words and runs, recurring transitions, walks; over any transition system.
 -- A looped word (an ultimately periodic word) is a lead-in (its finite prefix) and a loop (its period) that is repeated for ever.
 -- A transition recurs if it is among those that the run takes infinitely often.
---     stray_letter m w              test: some byte of w is no letter
+--     stray_letter m w             test: some byte of w is no letter
 --     At                           record: where a run is: stopped or not, the state, the letters read
 --     standing b p n               the same, stopped or not, at state p after n letters
 --     reads s x a                  where a run is after one letter more: at a missing transition it stops, and that letter is not counted
---     goes_by s x w                 where a run is after the letters of w
+--     goes_by s x w                where a run is after the letters of w
 --     Taken                        record: a transition, as the state that it leaves and its letter
 --     taken p a                    the transition of state p by the letter a
---     is_taken x y                  test: x and y are the same transition
---     pass_from s p w               list: the transitions taken in reading w from p
+--     is_taken x y                 test: x and y are the same transition
+--     pass_from s p w              list: the transitions taken in reading w from p
 --     follow s w p                 state: where the letters of w lead from p, if the transitions on the way are there
 --     turn s l r p                 state: where the repetition after the r-th of the loop l begins, the first of them at p
 --     ReadsOn s l p n              claim: n repetitions of the loop l are read one after the other, the first of them from p
---     long_run s q lead l           where the run from q is after the lead-in and as many repetitions of the loop as there are states
+--     long_run s q lead l          where the run from q is after the lead-in and as many repetitions of the loop as there are states
 --     recurring s q lead l         list: the transitions taken in as many repetitions more: of that many repetitions some begins at a state for
---                                  the second time, so these are just the transitions that recur (`recurs-view`)
+--                                  the second time, so these are just the transitions that recur (`recurs_view`)
 --     Stop s p w                   claim: reading w from p meets a missing transition: some letters lead on, and for the next there is none
 --     MeetsMissing s q lead l i    claim: the word's run from q meets a missing transition after i letters, in the lead-in or in the loop
 --     TakenIn s q lead l r x       claim: x is taken in the repetition after the r-th
 --     Recurs s q lead l x          claim: for every r, x is taken in some repetition after the r-th
---     goes_from s p xs              test: xs is a walk from p: transitions that are there, each leaving the state to which the one before leads
---     end_of s p xs                 state: where the walk leads
---     is_closed_walk s xs            test: xs is a walk, is not empty and leads back to the state that it leaves
+--     goes_from s p xs             test: xs is a walk from p: transitions that are there, each leaving the state to which the one before leads
+--     end_of s p xs                state: where the walk leads
+--     is_closed_walk s xs          test: xs is a walk, is not empty and leads back to the state that it leaves
 --     projected ss xs              list: a walk's projection: for each row its source state, which ss gives
 use Rattle.std.specs.Prelude.{◌≡◌, Bool, true, false, ◌&&◌, ◌||◌, List, [], ◌∷◌, ◌++◌, map, ℕ, suc, ◌≤◌, ◌<◌, eqb, ltb, leb, length, get_or}
 use Rattle.rules.specs.Basics.{pick, any, repeated, iter}

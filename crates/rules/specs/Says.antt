@@ -1,27 +1,27 @@
 -- What the public calls promise: the result, and the later contents of every lent array, for all arguments and every outcome.
 -- A prime marks an array's contents at exit.
---     CheckSays bs r                         claim: checking a table gives r
---     over xs o                              list: o with xs at its front, the entries past them untouched
---     components t                           list: the smallest state of each state's component
---     components_fault bs n                   refusal: the table's, then 7 for an array of n bytes that is too short
---     ComponentsSay bs o o' r                claim: finding the components gives r, and o becomes o'
---     are_short c m a b d e                   test: the capacity is out of range, or a lent array, of length a, b, d or e, is too short
---     arrays_fault c m a b d e                refusal: 7 where that holds
---     translate_fault bs c a b d e            refusal: the table's, then 7, then 8
---     padded n xs o                          list: o with xs and zeros up to n at its front
---     afterwards f n xs o                    list: what an array o with n places for rows holds after the refusal f: on success xs and zeros,
---                                            on 8 zeros, else what it held
---     RowArrays                              record of the four lent arrays: targets, priorities, source states and record numbers
---     row_arrays ts ps ss es                  the four as one record
---     TranslateSays bs c o o' number rows    claim: translating with the capacity c gives this refusal and count, and the arrays o become o'
---     TranslationAgrees bs ts' ps' ss' number rows    claim: demand 3 of the arrays as they are left, whatever the entries past the rows
---     ForecastSays bs number rows pairs      claim: the forecast of a table gives this refusal and these figures
---     ForecastMeans bs number rows pairs     claim: what the figures bound, for every capacity: the reachable rows, the rows of a translation,
---                                            and the priorities
---     RabinSays, ParitySays                  claims: judging a looped word gives this answer
+--     CheckSays bs r                                               claim: checking a table gives r
+--     over xs o                                                    list: o with xs at its front, the entries past them untouched
+--     components t                                                 list: the smallest state of each state's component
+--     components_fault bs n                                        refusal: the table's, then 7 for an array of n bytes that is too short
+--     ComponentsSay bs o o' r                                      claim: finding the components gives r, and o becomes o'
+--     are_short c m a b d e                                        test: the capacity is out of range, or a lent array, of length a, b, d or e, is too short
+--     arrays_fault c m a b d e                                     refusal: 7 where that holds
+--     translate_fault bs c a b d e                                 refusal: the table's, then 7, then 8
+--     padded n xs o                                                list: o with xs and zeros up to n at its front
+--     afterwards f n xs o                                          list: what an array o with n places for rows holds after the refusal f: on success xs and zeros,
+--                                                                  on 8 zeros, else what it held
+--     RowArrays                                                    record of the four lent arrays: targets, priorities, source states and record numbers
+--     row_arrays ts ps ss es                                       the four as one record
+--     TranslateSays bs c o o' number rows                          claim: translating with the capacity c gives this refusal and count, and the arrays o become o'
+--     TranslationAgrees bs ts' ps' ss' number rows                 claim: demand 3 of the arrays as they are left, whatever the entries past the rows
+--     ForecastSays bs number rows pairs                            claim: the forecast of a table gives this refusal and these figures
+--     ForecastMeans bs number rows pairs                           claim: what the figures bound, for every capacity: the reachable rows, the rows of a translation,
+--                                                                  and the priorities
+--     RabinSays, ParitySays                                        claims: judging a looped word gives this answer
 --     ComponentsMean, TranslationMeans, RabinMeans, ParityMeans    claims: what the equalities above mean, in terms of paths, reachable rows,
---                                            orderings, missing transitions and recurring ones
---     RestSays lead l i part                 claim: the rest of a piece is that very part of it
+--                                                                  orderings, missing transitions and recurring ones
+--     RestSays lead l i part                                       claim: the rest of a piece is that very part of it
 use Rattle.std.specs.Prelude.{◌≡◌, Bool, ◌||◌, List, [], ◌++◌, ℕ, ◌+◌, ◌-◌, ◌*◌, ◌≤◌, eqb, ltb, length, get_or, drop, replicate}
 use Rattle.rules.specs.Basics.{pick, first_of, when, tabulate}
 use Rattle.rules.specs.Limits.{max_rows}

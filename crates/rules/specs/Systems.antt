@@ -5,10 +5,10 @@
 --     via e k p q          test: a chain of links e leads from p to q, passing only through states below k (Warshall's closure)
 --     reaches s p q        test: p and q are equal, or a chain of transitions leads from p to q
 --     together s p q       test: p and q share a component (a strongly connected component)
---     component_of s q      number: the smallest state of q's component
---     is_inside s q a       test: the transition of q by a is there and both its ends share a component; if it is there and is not inside, it is
+--     component_of s q     number: the smallest state of q's component
+--     is_inside s q a      test: the transition of q by a is there and both its ends share a component; if it is there and is not inside, it is
 --                          crossing
---     some_within s b q     test: some inside transition of q's component passes the test b
+--     some_within s b q    test: some inside transition of q's component passes the test b
 --     Path s p w q         claim: the letters of w lead from p to q by transitions that are there
 --     Leads s p q          claim: some letters lead from p to q
 --     ComponentsAre s f    claim: f gives each state the smallest state of its component, in terms of paths

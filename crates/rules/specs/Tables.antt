@@ -1,26 +1,26 @@
 -- The Rabin table (a deterministic Rabin automaton with marks on its transitions): its bytes, its refusals, its components and its rows.
---     Table                   record: sizes, start, targets by cell, marks two by two: the prohibited byte, then the required byte
---     table_of bs              the table that the bytes give
---     target_of t q a          number: where q goes by a; no state where the transition is missing, nor past the last cell
+--     Table                                         record: sizes, start, targets by cell, marks two by two: the prohibited byte, then the required byte
+--     table_of bs                                   the table that the bytes give
+--     target_of t q a                               number: where q goes by a; no state where the transition is missing, nor past the last cell
 --     prohibited_byte t q a, required_byte t q a    numbers: the marks of the transition of q by a, bit i - 1 for pair i
---     prohibits t q a i       test: the transition of q by a has pair i's prohibited bit: it is in the pair's Fin set
---     requires t q a i        test: the transition of q by a has pair i's required bit: it is in the pair's Inf set
---     bad_sizes n m k          test: a size is out of range
---     table_length n m         number: the bytes that the sizes demand
---     bad_targets n none ts    test: some target is neither below n nor `none`
---     bad_mark k target p r    test: the marks p and r of one transition are not right for k pairs and its target
---     bad_marks k ts ms        test: some of the marks are not
---     table_fault bs           refusal of the bytes, 1 to 6 as in RULES, "Order", or 0 if the table is well formed
---     system_of t              system: the table's transitions
---     counts_by t i p a        test: the transition of p by a, if it is inside, makes pair i count: it has the required bit
---     counts t q i            test: pair i counts in q's component: some inside transition of it makes it count
---     rising t q              list: the pairs that count in q's component, rising
---     is_counted t q i         test: i is a pair, and it counts in q's component
---     IsOrdering t q o        claim: o holds each pair that counts in q's component once, and nothing else
---     marks_of t q a           the marks of the transition of q by a
---     record_keeper t          the keeper whose memories are index appearance records
---     table_plan t             the plan of the table's translation
---     StepIs t r a x          claim: x is what the row r does by the letter a, whole: no transition, a crossing, or an inside transition
+--     prohibits t q a i                             test: the transition of q by a has pair i's prohibited bit: it is in the pair's Fin set
+--     requires t q a i                              test: the transition of q by a has pair i's required bit: it is in the pair's Inf set
+--     bad_sizes n m k                               test: a size is out of range
+--     table_length n m                              number: the bytes that the sizes demand
+--     bad_targets n none ts                         test: some target is neither below n nor `none`
+--     bad_mark k target p r                         test: the marks p and r of one transition are not right for k pairs and its target
+--     bad_marks k ts ms                             test: some of the marks are not
+--     table_fault bs                                refusal of the bytes, 1 to 6 as in RULES, "Order", or 0 if the table is well formed
+--     system_of t                                   system: the table's transitions
+--     counts_by t i p a                             test: the transition of p by a, if it is inside, makes pair i count: it has the required bit
+--     counts t q i                                  test: pair i counts in q's component: some inside transition of it makes it count
+--     rising t q                                    list: the pairs that count in q's component, rising
+--     is_counted t q i                              test: i is a pair, and it counts in q's component
+--     IsOrdering t q o                              claim: o holds each pair that counts in q's component once, and nothing else
+--     marks_of t q a                                the marks of the transition of q by a
+--     record_keeper t                               the keeper whose memories are index appearance records
+--     table_plan t                                  the plan of the table's translation
+--     StepIs t r a x                                claim: x is what the row r does by the letter a, whole: no transition, a crossing, or an inside transition
 use Rattle.std.specs.Prelude.{◌≡◌, Bool, true, false, not, ◌&&◌, ◌||◌, List, [], ◌∷◌, ◌++◌, ℕ, suc, ◌+◌, ◌-◌, ◌*◌, ◌^◌, ◌≤◌, ◌<◌, eqb, ltb, leb, length, get_or, take, drop}
 use Rattle.rules.specs.Basics.{pick, any, first_of, when, occurs, keep, tabulate, bit}
 use Rattle.rules.specs.Limits.{max_states, max_letters, max_pairs, header_size, no_state}

@@ -1,10 +1,10 @@
 -- Text: lists of bytes in ASCII. Nothing here knows automata.
 --     blank, line_feed, dash    numbers: the bytes that are no digits
---     digit d                  number: the byte of a digit below 10
+--     digit d                   number: the byte of a digit below 10
 --     numeral_within f n        text: n in decimal, where f is no less than n
---     numeral n                text: n in decimal, in the fewest digits: `0` for 0
---     each f i g               text: the texts g i, g (i + 1) .., f of them, one after the other
---     put at t o               list: o with the text t written from place `at` on; what falls past the end of o is dropped
+--     numeral n                 text: n in decimal, in the fewest digits: `0` for 0
+--     each f i g                text: the texts g i, g (i + 1) .., f of them, one after the other
+--     put at t o                list: o with the text t written from place `at` on; what falls past the end of o is dropped
 use Rattle.std.specs.Prelude.{List, [], ◌∷◌, ◌++◌, ℕ, zero, suc, ◌+◌, ◌/◌, ◌%◌, ltb}
 use Rattle.std.proofs.lemmas.List.Edits.{sets}
 use Rattle.rules.specs.Basics.{pick, tabulate, joined}

@@ -1,9 +1,9 @@
 -- A well-formed table through the calls of this crate.
---     lay_fault_lem, many_cells       with room for its cells, laying out refuses nothing but the table; and such room for any table
+--     lay_fault_lem, many_cells                  with room for its cells, laying out refuses nothing but the table; and such room for any table
 --     LaidTable t n m start ts ms, laid_table    what is laid out of it: its sizes and its start, and its cells in the arrays
---     laid_fit                    there is room for the cells that are laid out where there is for the table's
---     surveyed                    what a survey of them leaves
---     surveyed_reached            what a survey of those that the start reaches leaves
+--     laid_fit                                   there is room for the cells that are laid out where there is for the table's
+--     surveyed                                   what a survey of them leaves
+--     surveyed_reached                           what a survey of those that the start reaches leaves
 use mathlib.Core.Path.{◌≡◌, refl, ap₂, ◌∙◌}
 use mathlib.Core.Bool.{Bool, true}
 use mathlib.Core.List.{List}

@@ -1,23 +1,23 @@
 -- A table laid out in two arrays, one entry for each cell, and what is surveyed of such arrays. A prime marks an array's contents at exit.
---     wide_target x                  number: a target as 16 bits, 65,535 where the transition is missing
---     target_entry t c               number: the target of cell c as 16 bits
---     mask_entry t c                 number: its marks as one mask, the required byte above the prohibited byte
---     target_cells t, mark_cells t    lists: the same for each cell
---     TargetsLaid t ts              claim: the array holds the targets of t, by state and letter
---     MarksLaid t ms                claim: the array holds the masks of t, by state and letter
---     IsTable t                     claim: the sizes of t are in range, its start is a state, and no marks have a bit above its pairs
---     counted_pairs t q              number: the pairs that count in q's component, as bits: bit i - 1 for pair i
---     HasCells bs k                 claim: an array of k entries has room for the cells of the table that the bytes give, if it is well formed
---     lay_fault bs a b               refusal: the table's, then 7 where an array of a or of b entries is too short for its cells
---     LaySays bs ..                 claim: laying out: both arrays, entries past the cells untouched, and the sizes; on a refusal nothing is
---                                   written and all sizes are 0
---     survey_fits n m ..             test: the sizes are in range, and the arrays have room for the cells and the states
---     required_in m ms i p a         test, the one that bit i stands for: the transition of p by a, if it is inside, makes pair i + 1 count
---     pair_bits                      number: how many bits a set of pairs has
---     counted_in n m ts ms q         number: the pairs that count in q's component, as bits, by the laid-out cells
+--     wide_target x                    number: a target as 16 bits, 65,535 where the transition is missing
+--     target_entry t c                 number: the target of cell c as 16 bits
+--     mask_entry t c                   number: its marks as one mask, the required byte above the prohibited byte
+--     target_cells t, mark_cells t     lists: the same for each cell
+--     TargetsLaid t ts                 claim: the array holds the targets of t, by state and letter
+--     MarksLaid t ms                   claim: the array holds the masks of t, by state and letter
+--     IsTable t                        claim: the sizes of t are in range, its start is a state, and no marks have a bit above its pairs
+--     counted_pairs t q                number: the pairs that count in q's component, as bits: bit i - 1 for pair i
+--     HasCells bs k                    claim: an array of k entries has room for the cells of the table that the bytes give, if it is well formed
+--     lay_fault bs a b                 refusal: the table's, then 7 where an array of a or of b entries is too short for its cells
+--     LaySays bs ..                    claim: laying out: both arrays, entries past the cells untouched, and the sizes; on a refusal nothing is
+--                                      written and all sizes are 0
+--     survey_fits n m ..               test: the sizes are in range, and the arrays have room for the cells and the states
+--     required_in m ms i p a           test, the one that bit i stands for: the transition of p by a, if it is inside, makes pair i + 1 count
+--     pair_bits                        number: how many bits a set of pairs has
+--     counted_in n m ts ms q           number: the pairs that count in q's component, as bits, by the laid-out cells
 --     counted_from n m from ts ms q    number: the pairs that count in q's component where `from` reaches q, else none
---     ReachedSays n m from ..       claim: surveying what one state reaches
---     SurveySays n m ..             claim: surveying: both arrays, entries past the states untouched; nothing is written where it does not fit
+--     ReachedSays n m from ..          claim: surveying what one state reaches
+--     SurveySays n m ..                claim: surveying: both arrays, entries past the states untouched; nothing is written where it does not fit
 use Rattle.std.specs.Prelude.{◌≡◌, Bool, ◌&&◌, ◌||◌, List, ℕ, suc, ◌+◌, ◌*◌, ◌/◌, ◌^◌, ◌<◌, ◌≤◌, eqb, leb, ltb, length, get_or}
 use Rattle.rules.specs.Basics.{pick, first_of, when, tabulate, bit, as_bits}
 use Rattle.rules.specs.Judges.{parity_system}

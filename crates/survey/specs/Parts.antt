@@ -1,13 +1,13 @@
 -- What the functions below the calls ask and leave, by name.
---     Listed n f xs             claim: the first n entries of xs are f 0, f 1 ..
---     RequiredBelow ms k all    claim: what a cell below k requires is in `all`, as bits
---     stays_in n m ts hs p a     test: the transition of p by a is there, and both its ends have the same home
---     some_at n m h stays b c    test: some transition that stays, of a state with the home c, passes the test b
+--     Listed n f xs                      claim: the first n entries of xs are f 0, f 1 ..
+--     RequiredBelow ms k all             claim: what a cell below k requires is in `all`, as bits
+--     stays_in n m ts hs p a             test: the transition of p by a is there, and both its ends have the same home
+--     some_at n m h stays b c            test: some transition that stays, of a state with the home c, passes the test b
 --     Gathered n m h stays b k q sets    claim: the entry of each home holds, as bits, the tests b i of k that some transition that stays passes, of
---                               a state below q with that home; for any homes and any tests
---     GatheredIn n m ts ms hs q sets    claim: the same of laid-out cells, for the pairs that they make count
---     gathered_in n m ts ms hs q    number: the pairs that count at q's home, as bits; none where its home is no state
---     CellsRoom n m ts ms hs    claim: the sizes are those of a table, and the arrays have an entry for each cell or state
+--                                        a state below q with that home; for any homes and any tests
+--     GatheredIn n m ts ms hs q sets     claim: the same of laid-out cells, for the pairs that they make count
+--     gathered_in n m ts ms hs q         number: the pairs that count at q's home, as bits; none where its home is no state
+--     CellsRoom n m ts ms hs             claim: the sizes are those of a table, and the arrays have an entry for each cell or state
 use Rattle.std.specs.Prelude.{◌≡◌, Bool, true, ◌&&◌, List, ℕ, ◌*◌, ◌/◌, ◌^◌, ◌<◌, ◌≤◌, eqb, ltb, length, get_or}
 use Rattle.rules.specs.Basics.{pick, bit, any_below, as_bits}
 use Rattle.rules.specs.Judges.{parity_system}

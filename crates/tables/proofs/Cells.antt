@@ -1,9 +1,9 @@
 -- Where the cells of a well-formed table are among its bytes.
 --     target_at, target_within, target_byte    the place of the byte that says where q goes by a, and that byte
---     prohibited_at, prohibited_byte_lem    the place of the byte of that transition's prohibited marks, and that byte
---     required_at, required_byte_lem        the same of its required marks
---     target_count, mark_count         one target and two marks for each cell
---     marks_small                      no marks have a bit above pair k, whatever the cell
+--     prohibited_at, prohibited_byte_lem       the place of the byte of that transition's prohibited marks, and that byte
+--     required_at, required_byte_lem           the same of its required marks
+--     target_count, mark_count                 one target and two marks for each cell
+--     marks_small                              no marks have a bit above pair k, whatever the cell
 use mathlib.Core.Path.{◌≡◌, ◌∙◌}
 use mathlib.Core.Bool.{false, not, ◌&&◌}
 use mathlib.Core.List.{List, [], ◌∷◌}

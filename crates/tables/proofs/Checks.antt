@@ -1,8 +1,8 @@
 -- The checks of sizes and cells.
---     bad_sizes_lem      the sizes within their ranges, as tests
---     mask_tested    both sets of marks of a cell as one mask
---     marks_turn     what is left to check after one cell more
---     marks_end      no cell is left
+--     bad_sizes_lem    the sizes within their ranges, as tests
+--     mask_tested      both sets of marks of a cell as one mask
+--     marks_turn       what is left to check after one cell more
+--     marks_end        no cell is left
 use mathlib.Core.Path.{◌≡◌, refl, sym, ap, ◌∙◌}
 use mathlib.Core.Bool.{Bool, true, false, not, ◌&&◌, ◌||◌, or_assoc, or-false}
 use mathlib.Core.List.{List}

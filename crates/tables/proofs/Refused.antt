@@ -1,5 +1,5 @@
 -- The refusals of a table in their order: each is given where its test is the first that holds.
---     targets_part, marks_part        the parts of the bytes that the cells are; parts-match: two marks for each target
+--     targets_part, marks_part        the parts of the bytes that the cells are; parts_match: two marks for each target
 --     header_short .. cells_judged    one law for each test, from what the tests before it left
 use mathlib.Core.Path.{◌≡◌}
 use mathlib.Core.Bool.{true, false}

@@ -1,7 +1,7 @@
 -- A table that passes its check.
 --     WellFormed bs    claim: the bytes are a table that passes its check
---     states_of bs      number: its states
---     system_in bs      system: its transitions
+--     states_of bs     number: its states
+--     system_in bs     system: its transitions
 use Rattle.std.specs.Prelude.{◌≡◌, List, ℕ}
 use Rattle.rules.specs.Systems.{System}
 use Rattle.rules.specs.Tables.{table_of, table_fault, system_of}

@@ -1,5 +1,5 @@
 -- The codes of cells, from a table that is laid out and what was surveyed of it.
---     few_cells_lem                   there is room for its cells in small arrays for a table of few bytes
+--     few_cells_lem               there is room for its cells in small arrays for a table of few bytes
 --     key_small, code_entered     the key at which a state is entered, by any set of pairs, and a code by such keys
 --     rising_marked               the rising pairs of a state, from the set of the pairs that count
 --     first_key, cells_room       the key of the first row, and room for the codes

@@ -1,18 +1,18 @@
 -- A table as a task for the exploration: its rule, letters and start, and a code for each cell.
---     cut_marks t q b           number: the pairs that pass b and count in q's component, as bits: bit i - 1 for pair i
---     entry_key t q             the key of the row by which a crossing enters at q
---     cell_code t q a           the code of the transition of q by a
---     task_of t                 the task that is explored
---     code_of n x w h k hs e    the code of a transition with target x and mask w, where h is the home of its state and k the pairs that count
---                              there, by the homes hs of all states and the keys e at which they are entered
---     rising_key q k            the key of the row at q with the pairs of the set k, rising
---     code_in n m .. q a        the code of the transition of q by a, by the laid-out cells
---     CodesRoom n m ..         claim: the sizes are in range, and the arrays have an entry for each cell or each state
---     Written n m f cells      claim: the cells hold what f says of their state and letter
---     TableCodes t cells       claim: the codes of all cells, and nothing after them
---     few_cells                 the cells for which small arrays are enough
+--     cut_marks t q b                                number: the pairs that pass b and count in q's component, as bits: bit i - 1 for pair i
+--     entry_key t q                                  the key of the row by which a crossing enters at q
+--     cell_code t q a                                the code of the transition of q by a
+--     task_of t                                      the task that is explored
+--     code_of n x w h k hs e                         the code of a transition with target x and mask w, where h is the home of its state and k the pairs that count
+--                                                    there, by the homes hs of all states and the keys e at which they are entered
+--     rising_key q k                                 the key of the row at q with the pairs of the set k, rising
+--     code_in n m .. q a                             the code of the transition of q by a, by the laid-out cells
+--     CodesRoom n m ..                               claim: the sizes are in range, and the arrays have an entry for each cell or each state
+--     Written n m f cells                            claim: the cells hold what f says of their state and letter
+--     TableCodes t cells                             claim: the codes of all cells, and nothing after them
+--     few_cells                                      the cells for which small arrays are enough
 --     EncodeSays bs short cells number used start    claim: encoding: the table's refusal, then 7 if `short`; else its codes in the first
---                              cells, and the key of the first row
+--                                                    cells, and the key of the first row
 use Rattle.std.specs.Prelude.{◌≡◌, Bool, ◌&&◌, List, ℕ, suc, ◌+◌, ◌*◌, ◌/◌, ◌%◌, ◌<◌, ◌≤◌, eqb, leb, length, get_or, take}
 use Rattle.std.specs.Int.Bits.{bit_and}
 use Rattle.rules.specs.Basics.{pick, first_of, when, keep, tabulate, as_bits}

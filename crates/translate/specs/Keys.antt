@@ -2,8 +2,8 @@
 --     row_key r      the key of a row
 --     key_row v      the row that a key stands for
 --     number_in v    its record's number
---     IsRow t r     claim: r can be in the translation of t: a state, with an ordering of the pairs that count in its component
---     IsKey t v     claim: v is the key of such a row
+--     IsRow t r      claim: r can be in the translation of t: a state, with an ordering of the pairs that count in its component
+--     IsKey t v      claim: v is the key of such a row
 use Rattle.std.specs.Prelude.{◌≡◌, List, ℕ, ◌<◌, ◌≤◌, length}
 use Rattle.rules.specs.Limits.{max_pairs}
 use Rattle.rules.specs.Records.{decimal}

@@ -1,8 +1,8 @@
 -- What the caller is told of the rows.
 --     Unpacked n ..        claim: n rows are unpacked: the state of each in one array, the number of its record in place of its key
 --     RowsLeft m n c ..    claim: the same, and the rows from number n up to c are 0 in all four arrays
---     refusal_of x          the refusal for an exploration's answer
---     rows_kept x           number: how many rows are kept, none if there are more than the capacity
+--     refusal_of x         the refusal for an exploration's answer
+--     rows_kept x          number: how many rows are kept, none if there are more than the capacity
 use Rattle.std.specs.Prelude.{◌≡◌, List, ℕ, ◌*◌, ◌<◌, get_or}
 use Rattle.rules.specs.Refusals as Refusal
 use Rattle.explore.specs.declared.Explored.{Explored}

@@ -19,18 +19,18 @@ use Rattle.tables.proofs.check_table.Statement.{statement}
 use Rattle.tables.proofs.check_table.Tie as tie
 
 -- what each test leaves, in the order of the code
-whole : (c : tie.Else-table-lt-HEADER_SIZE) → ltb (length c.before.before.args.table.now) header_size ≡ false
+whole : (c : tie.Else-table-lt-HEADER_SIZE) → ltb (length c.args.table.now) header_size ≡ false
 whole c = le-ltb _ _ c.if-table-lt-HEADER_SIZE.false
 
 module _ (c : tie.Else-bad_sizes) where
   abbrev bytes : List ℕ
-  bytes = c.before.before.before.before.before.before.before.args.table.now
+  bytes = c.args.table.now
 
   header : ltb (length bytes) header_size ≡ false
   header = whole c.before.before.before.before.before
 
   sizes : bad_sizes (table_of bytes).states (table_of bytes).letters (table_of bytes).pairs ≡ false
-  sizes = sym c.before.bad_sizes.ensures ∙ c.if-bad_sizes.false
+  sizes = sym c.bad_sizes.ensures ∙ c.if-bad_sizes.false
 
   sizes_taken : SizeFacts (table_of bytes).states (table_of bytes).letters (table_of bytes).pairs
   sizes_taken = size_facts _ _ _ sizes
@@ -46,19 +46,19 @@ exact c =
 
 -- what both checks of the cells find decides the rest
 judged : (c : tie.After-bad_marks-wrong_marks)
-    → CheckSays (bytes c.before.before.before.before.before.before.before.before) (first_of (when c.before.before.bad_targets-wrong_target.result Refusal.target) (when c.bad_marks-wrong_marks.result Refusal.marks))
+    → CheckSays (bytes c.before.before.before.before.before.before.before.before) (first_of (when c.bad_targets-wrong_target.result Refusal.target) (when c.bad_marks-wrong_marks.result Refusal.marks))
 judged c =
     let five = c.before.before.before.before in
     let four = five.before.before in
     let two = four.before.before in
-    rw (c.before.before.bad_targets-wrong_target.ensures, c.bad_marks-wrong_marks.ensures, targets_part (bytes two), marks_part (bytes two))
+    rw (c.bad_targets-wrong_target.ensures, c.bad_marks-wrong_marks.ensures, targets_part (bytes two), marks_part (bytes two))
     (cells_judged (bytes two) (header two) (sizes two) (enough four.before) (exact four) (lt-leb _ _ five.if-n-table.false))
 
 returns-then-table-lt-HEADER_SIZE : tie.Need-returns-then-table-lt-HEADER_SIZE
 returns-then-table-lt-HEADER_SIZE c = header_short _ (lt-ltb _ _ c.if-table-lt-HEADER_SIZE.true)
 
 returns-then-bad_sizes : tie.Need-returns-then-bad_sizes
-returns-then-bad_sizes c = sizes_bad _ (whole c.before.before.before.before.before) (sym c.before.bad_sizes.ensures ∙ c.if-bad_sizes.true)
+returns-then-bad_sizes c = sizes_bad _ (whole c.before.before.before.before.before) (sym c.bad_sizes.ensures ∙ c.if-bad_sizes.true)
 
 overflow_cast-cells : tie.Need-overflow_cast-cells
 overflow_cast-cells c = omega (arith, sizes_taken c)
@@ -97,10 +97,10 @@ returns-then-wrong_target : tie.Need-returns-then-wrong_target
 returns-then-wrong_target c = rw c.if-wrong_target.true at (judged c.before)
 
 returns-then-wrong_marks : tie.Need-returns-then-wrong_marks
-returns-then-wrong_marks c = rw (c.before.if-wrong_target.false, c.if-wrong_marks.true) at (judged c.before.before)
+returns-then-wrong_marks c = rw (c.if-wrong_target.false, c.if-wrong_marks.true) at (judged c.before.before)
 
 returns : tie.Need-returns
-returns c = rw (c.before.if-wrong_target.false, c.if-wrong_marks.false) at (judged c.before.before)
+returns c = rw (c.if-wrong_target.false, c.if-wrong_marks.false) at (judged c.before.before)
 
 pub check_table_spec : {M : Type 1} → statement M
 check_table_spec =

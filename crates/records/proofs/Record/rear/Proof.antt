@@ -25,20 +25,20 @@ decreases-loop self mask code₀ p₀ code p = 7 - p
 
 -- the pair that a turn has read
 pair_small : (c : tie.After-pair_at-pair invariant-loop decreases-loop) → c.pair_at-pair.result.0 < 8
-pair_small c = omega (arith, c.pair_at-pair.ensures, pair_below 6 c.before.before.before.args.self.code c.before.before.loop-p.p)
+pair_small c = omega (arith, c.pair_at-pair.ensures, pair_below 6 c.args.self.code c.loop-p.p)
 
 loop-p-init : tie.Need-loop-p-init invariant-loop decreases-loop
 loop-p-init c = (omega arith, refl)
 
 with_last-code-requires : tie.Need-with_last-code-requires invariant-loop decreases-loop
-with_last-code-requires c κs = (c.before.before.before.loop-p.invariant.0, pair_small c.before)
+with_last-code-requires c κs = (c.loop-p.invariant.0, pair_small c.before)
 
 loop-p-preserved : tie.Need-loop-p-preserved invariant-loop decreases-loop
 loop-p-preserved c =
-    let s = c.before.before.before.before.before.args in
-    let turn = c.before.before.before.before.loop-p in
-    let pair = c.before.before.pair_at-pair in
-    let is-in = c.before.is_in in (
+    let s = c.args in
+    let turn = c.loop-p in
+    let pair = c.pair_at-pair in
+    let is-in = c.is_in in (
       rear_below (not is-in.result) turn.code pair.result.0 c.with_last-code.result turn.invariant.0 (pair_small c.before.before) c.with_last-code.ensures,
       rw (add-one turn.p)
           (rear_turn (places s.self.code) turn.p pair.result.0 (omega arith) pair.ensures (stays s.mask) (not is-in.result) (ap not is-in.ensures) turn.code c.with_last-code.result c.with_last-code.ensures ∙ turn.invariant.1),
@@ -46,8 +46,8 @@ loop-p-preserved c =
 
 returns : tie.Need-returns invariant-loop decreases-loop
 returns c =
-    let s = c.before.before.args in
-    let turn = c.before.loop-p in
+    let s = c.args in
+    let turn = c.loop-p in
     let o : List ℕ = places s.self.code in
     sym (ap (in_rear (stays s.mask) turn.code) (drop_of_length-le (0 ∷ o) {i = turn.p} (omega arith)))
     ∙ turn.invariant.1 ∙ rear_code (is_marked s.mask) o (places_length 6 s.self.code)

@@ -41,20 +41,20 @@ loop-c-init c = (search rules, refl)
 loop-c-preserved : tie.Need-loop-c-preserved invariant-loop decreases-loop
 loop-c-preserved c =
     let s = c.before.before.before.before.before.before.before.before.before in
-    let i = c.before.before.before.before.before.before.loop-c in
+    let i = c.loop-c in
     let k = s.args.k in
     let ts = s.args.targets.now in
     let ms = s.args.marks.now in
     let x = get_or ts i.c 0 in
     let u = get_or ms (2 * i.c) 0 in
     let v = get_or ms (2 * i.c + 1) 0 in
-    let bytes = c.before.before.before.before.before.before.before.shared_slice_known-2-1.given in
+    let bytes = c.shared_slice_known-2-1.given in
     let cell = mask_tested k x u v s.requires.1 (omega (arith, bytes (2 * i.c))) (omega (arith, bytes (2 * i.c + 1))) in
-    let word : not (eqb (bit_and c.before.before.mask_of-mask.result c.barred_bits.result) 0) ≡ bad_mark k x u v = rw (c.before.before.mask_of-mask.ensures, c.barred_bits.ensures, (top k s.requires.1).0) cell in
+    let word : not (eqb (bit_and c.mask_of-mask.result c.barred_bits.result) 0) ≡ bad_mark k x u v = rw (c.mask_of-mask.ensures, c.barred_bits.ensures, (top k s.requires.1).0) cell in
     (omega arith, rw word (marks_turn k i.bad ts ms i.c (omega arith)) ∙ i.invariant.1)
 
 returns : tie.Need-returns invariant-loop decreases-loop
-returns c = marks_end _ _ _ _ _ c.loop-c-test.false c.before.loop-c.invariant.1
+returns c = marks_end _ _ _ _ _ c.loop-c-test.false c.loop-c.invariant.1
 
 pub bad_marks_spec : {M : Type 1} → statement M
 bad_marks_spec =

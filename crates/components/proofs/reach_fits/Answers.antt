@@ -1,0 +1,6 @@
+-- `components::reach_fits` meets its contract.
+use borrow.Author.Rules.{rules}
+use Rattle.components.proofs.reach_fits.Goals as goal
+
+pub returns : goal.returns
+returns c = rw c.cells_fit.ensures

@@ -1,0 +1,13 @@
+-- `forecast::sum_up` meets its contract. The invariant: the figures are those of the states below q.
+use borrow.Author.Rules.{rules}
+use Prim.Native.Nat.{◌-◌, ◌≤◌}
+use native.Mathlib.Nat.{le_antisymm}
+use native.Mathlib.Omega.{arith}
+use Rattle.forecast.proofs.Counting.{FiguresBelow, figures_none, rows_few, figures_more}
+use Rattle.forecast.proofs.sum_up.Given as goal
+
+abbrev pub invariant-loop-q : goal.invariant-loop-q
+invariant-loop-q l = (l.q ≤ l.n) × FiguresBelow l.n l.homes l.counted l.q l.rows l.most
+
+abbrev pub decreases-loop-q : goal.decreases-loop-q
+decreases-loop-q l = l.n - l.q

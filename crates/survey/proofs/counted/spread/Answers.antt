@@ -1,0 +1,30 @@
+-- `survey::counted::spread` meets its contract. The invariant: below q each state's entry is its component's.
+use borrow.Author.Rules.{rules}
+use mathlib.Core.Path.{◌≡◌}
+use Prim.Native.Nat.{◌-◌, ◌≤◌}
+use native.Mathlib.Nat.{le_antisymm}
+use native.Mathlib.Omega.{arith}
+use lib.Dec.{ltb}
+use lib.ListN.{get_or}
+use Rattle.rules.specs.Basics.{pick}
+use Rattle.rules.proofs.Filling.{Filled, filled_none, filled_more, filled_over}
+use Rattle.survey.proofs.counted.spread.Goals as goal
+
+pub loop-q-preserved : goal.loop-q-preserved
+loop-q-preserved c =
+    let i = c.loop-q in
+    (omega arith, filled_more _ _ _ i.q _ (omega arith) c.set_of.ensures i.invariant.1)
+
+pub returns : goal.returns
+returns c =
+    let i = c.loop-q.invariant in
+    filled_over _ _ _ _ (omega arith) (rw (le_antisymm i.0 c.loop-q-test.false) at i.1)
+
+pub loop-q-init : goal.loop-q-init
+loop-q-init c = (omega arith, filled_none _ _)
+
+pub bounds-out-q : goal.bounds-out-q
+bounds-out-q c = omega (arith, c.loop-q.invariant.1.size)
+
+pub shape_of-out : goal.shape_of-out
+shape_of-out c = c.loop-q.invariant.1.size

@@ -1,0 +1,15 @@
+-- `survey::homes::narrow` meets its contract. The invariant: the entries below q are copied.
+use borrow.Author.Rules.{rules}
+use mathlib.Core.Path.{◌≡◌, refl}
+use Prim.Native.Nat.{◌-◌, ◌≤◌}
+use native.Mathlib.Nat.{le_antisymm}
+use native.Mathlib.Omega.{arith}
+use lib.ListN.{get_or}
+use Rattle.rules.proofs.Filling.{Filled, filled_none, filled_more, filled_over}
+use Rattle.survey.proofs.homes.narrow.Given as goal
+
+abbrev pub invariant-loop-q : goal.invariant-loop-q
+invariant-loop-q l = (l.q ≤ l.n) × Filled (λ i v. v ≡ get_or l.numbers i 0) l.initial.out l.out l.q
+
+abbrev pub decreases-loop-q : goal.decreases-loop-q
+decreases-loop-q l = l.n - l.q
