@@ -1,7 +1,6 @@
 -- `agreement::judge_both` meets its contract, from the contracts of the calls alone: the translator's says that on a table that is
 -- translated both judgements are the same, and each judge's that it gives its judgement; `letters_of` reads the table's letters for them.
 use native.Mathlib.Omega.{arith}
-use borrow.Author.Rules.{rules}
 use Rattle.judge.proofs.Judgements.{answers_agree}
 use Rattle.agreement.proofs.judge_both.Goals as goal
 

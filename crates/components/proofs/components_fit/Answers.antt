@@ -1,5 +1,4 @@
 -- `components::components_fit` meets its contract: a quotient is tested instead of a product.
-use borrow.Author.Rules.{rules}
 use Rattle.components.proofs.Fits.{components_tested}
 use Rattle.components.proofs.components_fit.Goals as goal
 

@@ -1,8 +1,6 @@
 -- `components::fill` meets its contract. The invariant: the entries below q are written.
-use Prim.Native.Nat.{◌-◌, ◌≤◌}
 use native.Mathlib.Nat.{le_antisymm}
 use native.Mathlib.Omega.{arith}
-use Rattle.components.specs.Places.{FilledWith}
 use Rattle.components.proofs.Stores.{filled_none, filled_more}
 use Rattle.components.proofs.fill.Goals as goal
 

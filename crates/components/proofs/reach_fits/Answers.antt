@@ -1,5 +1,4 @@
 -- `components::reach_fits` meets its contract.
-use borrow.Author.Rules.{rules}
 use Rattle.components.proofs.reach_fits.Goals as goal
 
 pub returns : goal.returns

@@ -1,6 +1,5 @@
 -- `exported::answer_of` meets its contract: each arm knows its case, and `answer_of` gives the kind and the value of that case.
 use mathlib.Core.Path.{sym, ap}
-use borrow.Author.Rules.{rules}
 use Rattle.judge.specs.Judgements.{answer_of}
 use Rattle.exported.proofs.answer_of.Goals as goal
 

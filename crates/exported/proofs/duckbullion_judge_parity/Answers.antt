@@ -1,5 +1,4 @@
 -- `exported::duckbullion_judge_parity` meets its contract: the judge's answer, by its kind and value.
-use borrow.Author.Rules.{rules}
 use Rattle.exported.proofs.duckbullion_judge_parity.Goals as goal
 
 pub returns : goal.returns

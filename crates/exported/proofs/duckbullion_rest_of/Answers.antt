@@ -1,5 +1,4 @@
 -- `exported::duckbullion_rest_of` meets its contract: by the length of what `judge::rest_of` hands back.
-use borrow.Author.Rules.{rules}
 use Rattle.exported.proofs.Rests.{rest_of_lead, rest_fits, rest_of_loop}
 use Rattle.exported.proofs.duckbullion_rest_of.Goals as goal
 

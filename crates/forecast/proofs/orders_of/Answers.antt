@@ -1,5 +1,4 @@
 -- `forecast::orders_of` meets its contract: the table of orders holds factorials.
-use borrow.Author.Rules.{rules}
 use native.Mathlib.Omega.{arith}
 use Rattle.forecast.proofs.Counting.{orders_at}
 use Rattle.forecast.proofs.orders_of.Goals as goal

@@ -1,5 +1,4 @@
 -- `forecast::rows_at` meets its contract.
-use borrow.Author.Rules.{rules}
 use borrow.Author.Tests.{lt-ltb, le-ltb}
 use Rattle.forecast.proofs.rows_at.Goals as goal
 

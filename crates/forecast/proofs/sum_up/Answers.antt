@@ -1,9 +1,7 @@
 -- `forecast::sum_up` meets its contract. The invariant: the figures are those of the states below q.
-use borrow.Author.Rules.{rules}
-use Prim.Native.Nat.{◌-◌, ◌≤◌}
 use native.Mathlib.Nat.{le_antisymm}
 use native.Mathlib.Omega.{arith}
-use Rattle.forecast.proofs.Counting.{FiguresBelow, figures_none, rows_few, figures_more}
+use Rattle.forecast.proofs.Counting.{figures_none, rows_few, figures_more}
 use Rattle.forecast.proofs.sum_up.Goals as goal
 
 pub rows_at-rows-requires : goal.rows_at-rows-requires

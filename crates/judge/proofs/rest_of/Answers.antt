@@ -1,6 +1,5 @@
 -- `judge::rest_of` meets its contract: the rest of the lead-in, of the loop, or the loop's empty end.
 use native.Mathlib.Nat.{le_of_lt, min-eq_left, min-eq_right}
-use borrow.Author.Rules.{rules}
 use borrow.Author.Tests.{lt-ltb, le-ltb}
 use lib.ListN.{drop_of_length-le}
 use lib.Seq.{drop-length}

@@ -1,6 +1,5 @@
 -- `listing::list` meets its contract: there is room for the bound, so the listing is written whole.
 use native.Mathlib.Omega.{arith}
-use borrow.Author.Rules.{rules}
 use Rattle.rules.proofs.ListingBounds.{listing_whole}
 use Rattle.listing.proofs.list.Goals as goal
 

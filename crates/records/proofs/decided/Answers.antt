@@ -1,6 +1,5 @@
 -- `records::decided` meets its contract, in each case.
 use native.Mathlib.Omega.{arith}
-use borrow.Author.Rules.{rules}
 use Rattle.records.proofs.decided.Goals as goal
 
 pub returns-then-odd : goal.returns-then-odd

@@ -1,5 +1,4 @@
 -- `records::with_digit` meets its contract, in both cases.
-use borrow.Author.Rules.{rules}
 use borrow.Author.Tests.{ne_eqb}
 use Rattle.records.proofs.with_digit.Goals as goal
 

@@ -1,5 +1,4 @@
 -- `records::with_last` meets its contract, in both cases.
-use borrow.Author.Rules.{rules}
 use Rattle.records.proofs.with_last.Goals as goal
 
 pub returns-then-goes : goal.returns-then-goes

@@ -1,5 +1,4 @@
 -- `records::with_pair` meets its contract, in both cases.
-use borrow.Author.Rules.{rules}
 use Rattle.records.proofs.with_pair.Goals as goal
 
 pub returns-then-goes : goal.returns-then-goes

@@ -1,7 +1,6 @@
 -- `tables::letters_of` meets its contract: the second byte, or the default where there is none.
 use mathlib.Core.Path.{sym}
 use native.Mathlib.Omega.{arith}
-use borrow.Author.Rules.{rules}
 use lib.ListN.{get_or-eq_default}
 use Rattle.tables.proofs.letters_of.Goals as goal
 

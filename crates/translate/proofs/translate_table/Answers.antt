@@ -1,5 +1,4 @@
 -- `translate::translate_table` meets its contract: a table of few bytes has few cells.
-use borrow.Author.Rules.{rules}
 use mathlib.Core.Bool.{false≢true}
 use Rattle.survey.proofs.Tables.{many_cells}
 use Rattle.translate.proofs.CellCodes.{few_cells_lem}

@@ -1,6 +1,5 @@
 -- `cards::marked::judge_card` meets its contract: the Rabin judge gives the card's answer, and so does the parity judge on what the translator leaves.
 use native.Mathlib.Omega.{arith}
-use borrow.Author.Rules.{rules}
 use Rattle.rules.proofs.Cards.{card_holds, card_answers}
 use Rattle.cards.proofs.Cited.{not_refused}
 use Rattle.cards.proofs.marked.judge_card.Goals as goal

@@ -1,6 +1,5 @@
 -- `cards::marked::translate_card` meets its contract: there is room for any table, so nothing is refused, and the card says what the translator finds.
 use native.Mathlib.Omega.{arith}
-use borrow.Author.Rules.{rules}
 use Rattle.rules.proofs.Cards.{card_holds, card_arrays}
 use Rattle.cards.proofs.Cited.{not_refused}
 use Rattle.cards.proofs.marked.translate_card.Goals as goal

@@ -1,5 +1,4 @@
 -- `components::cells::target_at` meets its contract.
-use borrow.Author.Rules.{rules}
 use native.Mathlib.Omega.{arith}
 use Rattle.rules.specs.Limits.{no_row}
 use Rattle.rules.proofs.Arrays.{get_d_any}

@@ -1,6 +1,5 @@
 -- `components::paths::enter` meets its contract.
 use native.Mathlib.Omega.{arith}
-use borrow.Author.Rules.{rules}
 use lib.ListN.{length-set}
 use Rattle.components.proofs.Stores.{entered_stores}
 use Rattle.components.proofs.paths.enter.Goals as goal

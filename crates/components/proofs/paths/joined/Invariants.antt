@@ -1,10 +1,6 @@
 -- `components::paths::joined` meets its contract.
-use Prim.Native.Nat.{ℕ, ◌-◌, ◌<◌, ◌≤◌}
-use mathlib.Core.Path.{ap}
-use native.Mathlib.Omega.{arith}
+use Prim.Native.Nat.{ℕ, ◌<◌, ◌≤◌}
 use Rattle.components.specs.Places.{at}
-use Rattle.components.proofs.Loops.{joined_done}
-use Rattle.components.proofs.Searches.{same_or}
 use Rattle.components.proofs.paths.joined.Given as goal
 
 abbrev pub invariant-loop-kept : goal.invariant-loop-kept

@@ -1,8 +1,5 @@
 -- `components::paths::smallest` meets its contract.
-use Prim.Native.Nat.{◌-◌, ◌<◌, ◌≤◌}
 use native.Mathlib.Omega.{arith}
-use Rattle.components.specs.Places.{at}
-use Rattle.components.specs.Searching.{Smallest}
 use Rattle.components.proofs.Loops.{smallest_one, smallest_kept, smallest_better}
 use mathlib.Core.Logic.{⊎_elim}
 use native.Mathlib.Nat.{le_antisymm}

@@ -1,11 +1,7 @@
 -- `components::paths::smallest` meets its contract.
 use Prim.Native.Nat.{◌-◌, ◌<◌, ◌≤◌}
-use native.Mathlib.Omega.{arith}
 use Rattle.components.specs.Places.{at}
 use Rattle.components.specs.Searching.{Smallest}
-use Rattle.components.proofs.Loops.{smallest_one, smallest_kept, smallest_better}
-use mathlib.Core.Logic.{⊎_elim}
-use native.Mathlib.Nat.{le_antisymm}
 use Rattle.components.proofs.paths.smallest.Given as goal
 
 abbrev pub invariant-loop-i : goal.invariant-loop-i

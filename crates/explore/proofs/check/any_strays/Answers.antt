@@ -1,11 +1,7 @@
 -- `explore::check::any_strays` meets its contract. The invariant: some code strays exactly if `found` says so or one from i on does.
 use borrow.Author.Rules.{rules}
-use mathlib.Core.Path.{◌≡◌, refl, ◌∙◌}
-use mathlib.Core.Bool.{◌||◌}
-use Prim.Native.Nat.{◌-◌, ◌≤◌}
+use mathlib.Core.Path.{refl, ◌∙◌}
 use native.Mathlib.Omega.{arith}
-use lib.ListN.{length, drop}
-use Rattle.rules.specs.Basics.{any}
 use Rattle.rules.proofs.Sets.{any_turn, any_end}
 use Rattle.explore.specs.Cells.{strays}
 use Rattle.explore.proofs.check.any_strays.Goals as goal

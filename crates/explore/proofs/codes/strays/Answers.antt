@@ -1,5 +1,4 @@
 -- `explore::codes::strays` meets its contract.
-use borrow.Author.Rules.{rules}
 use Rattle.explore.proofs.codes.strays.Goals as goal
 
 pub returns : goal.returns

@@ -1,12 +1,6 @@
 -- `explore::effects::write_by_pairs` meets its contract. The invariant: the effects of the first a cells are written.
-use borrow.Author.Rules.{rules}
-use Prim.Native.Nat.{◌+◌, ◌-◌}
 use native.Mathlib.Omega.{arith}
-use lib.ListN.{get_or}
-use Rattle.rules.proofs.Filling.{Filled, filled_none, filled_more}
-use Rattle.explore.specs.declared.Rule.TheVariants.{Pairs}
-use Rattle.explore.specs.Cells.{marks_in}
-use Rattle.explore.specs.Effects.{IsEffect}
+use Rattle.rules.proofs.Filling.{filled_none, filled_more}
 use Rattle.explore.proofs.effects.write_by_pairs.Goals as goal
 
 pub loop-a-preserved : goal.loop-a-preserved

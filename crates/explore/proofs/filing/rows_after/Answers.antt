@@ -1,6 +1,5 @@
 -- `explore::filing::rows_after` meets its contract: one row more, or none.
 use native.Mathlib.Numerals.{add-one}
-use borrow.Author.Rules.{rules}
 use borrow.Author.Tests.{eq-eqb, ne_eqb}
 use Rattle.explore.proofs.filing.rows_after.Goals as goal
 

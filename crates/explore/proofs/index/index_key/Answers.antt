@@ -1,5 +1,4 @@
 -- `explore::index::index_key` meets its contract: each array is written in one place.
-use borrow.Author.Rules.{rules}
 use native.Mathlib.Numerals.{add-one}
 use Rattle.explore.proofs.index.index_key.Goals as goal
 

@@ -1,12 +1,9 @@
 -- `explore::index::index_keys` meets its contract. The invariant: the first i keys are indexed.
-use borrow.Author.Rules.{rules}
-use mathlib.Core.Path.{◌≡◌, refl}
-use Prim.Native.Nat.{◌-◌, ◌≤◌}
+use mathlib.Core.Path.{refl}
 use native.Mathlib.Nat.{le_antisymm}
 use native.Mathlib.Numerals.{add-one}
 use native.Mathlib.Omega.{arith}
-use lib.ListN.{length, length-set}
-use Rattle.explore.specs.Index.{Indexed}
+use lib.ListN.{length-set}
 use Rattle.explore.proofs.Chains.{indexed_none, indexed_more}
 use Rattle.explore.proofs.index.index_keys.Goals as goal
 

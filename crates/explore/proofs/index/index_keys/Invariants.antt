@@ -1,13 +1,8 @@
 -- `explore::index::index_keys` meets its contract. The invariant: the first i keys are indexed.
-use borrow.Author.Rules.{rules}
-use mathlib.Core.Path.{◌≡◌, refl}
+use mathlib.Core.Path.{◌≡◌}
 use Prim.Native.Nat.{◌-◌, ◌≤◌}
-use native.Mathlib.Nat.{le_antisymm}
-use native.Mathlib.Numerals.{add-one}
-use native.Mathlib.Omega.{arith}
-use lib.ListN.{length, length-set}
+use lib.ListN.{length}
 use Rattle.explore.specs.Index.{Indexed}
-use Rattle.explore.proofs.Chains.{indexed_none, indexed_more}
 use Rattle.explore.proofs.index.index_keys.Given as goal
 
 abbrev pub invariant-loop-i : goal.invariant-loop-i

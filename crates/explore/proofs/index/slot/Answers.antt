@@ -1,6 +1,5 @@
 -- `explore::index::slot` meets its contract: a number of slots less one, cut to some of its bits, is below the slots.
 use mathlib.Core.Path.{refl}
-use borrow.Author.Rules.{rules}
 use Rattle.explore.proofs.Chains.{slot_below}
 use Rattle.explore.proofs.index.slot.Goals as goal
 

@@ -1,5 +1,4 @@
 -- `explore::rows::next_key` meets its contract, by the kind of the transition.
-use borrow.Author.Rules.{rules}
 use mathlib.Core.Path.{◌≡◌, ◌∙◌}
 use Prim.Native.Nat.{◌/◌, ◌%◌}
 use native.Mathlib.Omega.{arith}

@@ -1,5 +1,4 @@
 use borrow.Author.Tests.{lt-ltb, le-ltb}
-use borrow.Author.Rules.{rules}
 use Rattle.explore.specs.Cells.{step_in}
 use Rattle.explore.proofs.rows.priority_of.Goals as goal
 

@@ -1,5 +1,4 @@
 -- `explore::rows::read_many` meets its contract: the keys are indexed anew, and then rows are read.
-use borrow.Author.Rules.{rules}
 use native.Mathlib.Omega.{arith}
 use Rattle.rules.proofs.Filling.{zeros_at}
 use Rattle.explore.proofs.Answers.{rows_done}

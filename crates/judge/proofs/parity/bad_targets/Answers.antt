@@ -1,12 +1,7 @@
 -- `judge::parity::bad_targets` meets its contract. The invariant: some target is wrong exactly if `bad` says so or one from c on is.
-use mathlib.Core.Path.{◌≡◌, refl, ◌∙◌}
-use mathlib.Core.Bool.{◌||◌}
-use Prim.Native.Nat.{◌-◌, ◌≤◌}
+use mathlib.Core.Path.{refl, ◌∙◌}
 use native.Mathlib.Omega.{arith}
 use borrow.Author.Rules.{rules}
-use lib.ListN.{length, drop}
-use Rattle.rules.specs.Limits.{no_row}
-use Rattle.rules.specs.Tables.{bad_targets}
 use Rattle.rules.proofs.Sets.{any_turn, any_end}
 use Rattle.judge.proofs.parity.bad_targets.Goals as goal
 

@@ -1,5 +1,4 @@
 -- `judge::sizes::judge_large` meets its contract: a well-formed table has no more rows than its arrays have room for.
-use borrow.Author.Rules.{rules}
 use Rattle.rules.specs.Limits.{max_rows}
 use Rattle.rules.proofs.Filling.{zeros_at}
 use Rattle.rules.proofs.Refusals.{parity_facts}

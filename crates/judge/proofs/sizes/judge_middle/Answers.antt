@@ -1,5 +1,4 @@
 -- `judge::sizes::judge_middle` meets its contract: its arrays have room for the rows.
-use borrow.Author.Rules.{rules}
 use Rattle.rules.proofs.Filling.{zeros_at}
 use Rattle.judge.specs.Sizes.{middle_rows}
 use Rattle.judge.proofs.sizes.judge_middle.Goals as goal

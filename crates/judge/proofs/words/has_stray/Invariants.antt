@@ -1,12 +1,9 @@
 -- `judge::words::has_stray` meets its contract. The invariant: some byte is no letter exactly if `stray` says so or one from i on is none.
-use mathlib.Core.Path.{◌≡◌, refl, ◌∙◌}
+use mathlib.Core.Path.{◌≡◌}
 use mathlib.Core.Bool.{◌||◌}
 use Prim.Native.Nat.{◌-◌, ◌≤◌}
-use native.Mathlib.Omega.{arith}
-use borrow.Author.Rules.{rules}
 use lib.ListN.{length, drop}
 use Rattle.rules.specs.Runs.{stray_letter}
-use Rattle.rules.proofs.Sets.{any_turn, any_end}
 use Rattle.judge.proofs.words.has_stray.Given as goal
 
 abbrev pub invariant-loop-i : goal.invariant-loop-i

@@ -1,5 +1,4 @@
 -- `judge_rabin::cells::start_of` meets its contract: a well-formed table has the byte.
-use borrow.Author.Rules.{rules}
 use native.Mathlib.Omega.{arith}
 use Rattle.rules.proofs.Refusals.{table_facts}
 use Rattle.judge_rabin.proofs.cells.start_of.Goals as goal

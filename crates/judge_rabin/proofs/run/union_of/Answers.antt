@@ -1,11 +1,8 @@
 -- `judge_rabin::run::union_of` meets its contract. The invariant: the union of the first i sets is found.
-use Prim.Native.Nat.{◌-◌, ◌≤◌}
 use native.Mathlib.Omega.{arith}
 use lib.Bits.{bit_or}
-use lib.ListN.{length, take}
 use Rattle.rules.specs.Basics.{bit}
 use Rattle.rules.proofs.Bits.{bit_none}
-use Rattle.judge.specs.Passes.{SumsUp}
 use Rattle.judge.proofs.Sums.{union_joins, sums_rest, sums_end}
 use Rattle.judge_rabin.proofs.run.union_of.Goals as goal
 

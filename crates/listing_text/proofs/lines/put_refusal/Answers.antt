@@ -1,5 +1,4 @@
 -- `listing_text::lines::put_refusal` meets its contract: the word, then the number.
-use borrow.Author.Rules.{rules}
 use Rattle.rules.specs.Listings.{refusal_line}
 use Rattle.listing_text.proofs.Writing.{wrote_both, reach_then}
 use Rattle.listing_text.proofs.lines.put_refusal.Goals as goal

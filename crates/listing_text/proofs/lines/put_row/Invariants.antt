@@ -1,13 +1,8 @@
 -- `listing_text::lines::put_row` meets its contract. The invariant: the lines of the first a letters are written.
 use Prim.Native.Nat.{◌-◌, ◌≤◌}
-use native.Mathlib.Nat.{le_antisymm}
-use native.Mathlib.Omega.{arith}
-use Rattle.rules.specs.Limits.{max_rows}
 use Rattle.rules.specs.Texts.{each}
-use Rattle.rules.specs.Listings.{line_at, row_lines}
+use Rattle.rules.specs.Listings.{line_at}
 use Rattle.listing_text.specs.Writing.{Wrote}
-use Rattle.listing_text.proofs.Writing.{wrote_none, wrote_length, wrote_next, reach_next}
-use Rattle.rules.proofs.Arrays.{row_ends}
 use Rattle.listing_text.proofs.lines.put_row.Given as goal
 
 abbrev pub invariant-loop-a : goal.invariant-loop-a

@@ -2,7 +2,6 @@
 use mathlib.Core.Path.{refl, sym, ◌∙◌}
 use mathlib.Core.Logic.{⊎_elim}
 use lib.Seq.{set_out}
-use borrow.Author.Rules.{rules}
 use Rattle.listing_text.proofs.Writing.{wrote_length}
 use Rattle.listing_text.proofs.text.put_byte.Goals as goal
 

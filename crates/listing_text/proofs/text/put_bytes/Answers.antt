@@ -1,10 +1,6 @@
 -- `listing_text::text::put_bytes` meets its contract. The invariant: the first i bytes are written.
-use Prim.Native.Nat.{◌-◌, ◌≤◌}
 use native.Mathlib.Omega.{arith}
-use lib.ListN.{length, take}
 use lib.Seq.{take_all}
-use borrow.Author.Rules.{rules}
-use Rattle.listing_text.specs.Writing.{Wrote}
 use Rattle.listing_text.proofs.Writing.{wrote_none, wrote_length, wrote_next_byte, reach_next_byte}
 use Rattle.listing_text.proofs.text.put_bytes.Goals as goal
 

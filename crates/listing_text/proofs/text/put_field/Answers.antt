@@ -1,5 +1,4 @@
 -- `listing_text::text::put_field` meets its contract: the number, then the byte.
-use borrow.Author.Rules.{rules}
 use Rattle.rules.specs.Listings.{field}
 use Rattle.listing_text.proofs.Writing.{wrote_both, reach_first, reach_then}
 use Rattle.listing_text.proofs.text.put_field.Goals as goal

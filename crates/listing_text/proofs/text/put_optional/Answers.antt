@@ -1,6 +1,5 @@
 -- `listing_text::text::put_optional` meets its contract: a dash and the byte, or a field as any other.
 use mathlib.Core.List.{[], ◌∷◌}
-use borrow.Author.Rules.{rules}
 use Rattle.rules.specs.Texts.{dash}
 use Rattle.rules.specs.Listings.{field, optional}
 use Rattle.listing_text.proofs.Writing.{wrote_both, reach_first, reach_then}

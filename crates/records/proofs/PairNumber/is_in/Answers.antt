@@ -1,6 +1,5 @@
 -- `records::PairNumber::is_in` meets its contract: the bits of the set are moved up by one, so that pair 0 has one too, which is not set.
 use native.Mathlib.Omega.{arith}
-use borrow.Author.Rules.{rules}
 use Rattle.records.proofs.Packing.{marked_masked}
 use Rattle.records.proofs.PairNumber.is_in.Goals as goal
 

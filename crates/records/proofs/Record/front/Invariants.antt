@@ -1,11 +1,9 @@
 -- `records::Record::front` meets its contract. The invariant: the code holds the pairs of the set past position p.
-use mathlib.Core.Path.{◌≡◌, refl, ap, ◌∙◌}
-use Prim.Native.Nat.{ℕ, ◌-◌, ◌≤◌}
-use native.Mathlib.Omega.{arith}
+use mathlib.Core.Path.{◌≡◌}
+use Prim.Native.Nat.{◌≤◌}
 use lib.ListN.{drop}
 use Rattle.rules.specs.Basics.{keep}
 use Rattle.records.specs.Packed.{is_marked, packed, places}
-use Rattle.records.proofs.Packing.{kept_below, places_below, pair_below, kept_turn}
 use Rattle.records.proofs.Record.front.Given as goal
 
 abbrev pub invariant-loop-p : goal.invariant-loop-p

@@ -1,17 +1,12 @@
 -- `records::Record::number` meets its contract. The invariant: the number still has room for a digit, and followed by the pairs from position p on
 -- it is the whole number.
-use mathlib.Core.Path.{◌≡◌, refl, sym, ap, ◌∙◌}
-use mathlib.Core.List.{List, ◌∷◌}
-use Prim.Native.Nat.{ℕ, suc, ◌*◌, ◌-◌, ◌^◌, ◌≤◌}
-use native.Mathlib.Nat.{pow-le-pow_right}
-use native.Mathlib.Numerals.{add-one}
-use native.Mathlib.Omega.{arith}
-use lib.Dec.{lit<}
-use lib.ListN.{drop, drop_of_length-le}
+use mathlib.Core.Path.{◌≡◌}
+use mathlib.Core.List.{◌∷◌}
+use Prim.Native.Nat.{suc, ◌*◌, ◌-◌, ◌^◌, ◌≤◌}
+use lib.ListN.{drop}
 use Rattle.rules.specs.Basics.{keep}
 use Rattle.rules.specs.Records.{decimal_from, decimal}
 use Rattle.records.specs.Packed.{is_pair, places, pairs_in}
-use Rattle.records.proofs.Packing.{pair_below, digit_turn, digit_below}
 use Rattle.records.proofs.Record.number.Given as goal
 
 abbrev pub invariant-loop-p : goal.invariant-loop-p

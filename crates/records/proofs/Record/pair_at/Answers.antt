@@ -1,7 +1,6 @@
 -- `records::Record::pair_at` meets its contract: a position outside the record has no pair, and each other's is found by a shift.
 use mathlib.Core.Path.{sym}
 use native.Mathlib.Omega.{arith}
-use borrow.Author.Rules.{rules}
 use Rattle.records.proofs.Packing.{position_within, no_pair_at, pair_shifted}
 use Rattle.records.proofs.Record.pair_at.Goals as goal
 

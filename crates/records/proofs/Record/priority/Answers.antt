@@ -1,11 +1,11 @@
 -- `records::Record::priority` meets its contract. The invariant: the positions from p on make of `best` the whole priority.
-use mathlib.Core.Path.{◌≡◌, refl, sym, ap, ◌∙◌}
+use mathlib.Core.Path.{sym, ap, ◌∙◌}
 use mathlib.Core.List.{List, ◌∷◌}
-use Prim.Native.Nat.{ℕ, ◌-◌}
+use Prim.Native.Nat.{ℕ}
 use native.Mathlib.Numerals.{add-one}
 use native.Mathlib.Omega.{arith}
-use lib.ListN.{drop, drop_of_length-le}
-use Rattle.rules.specs.Records.{Marks, priority_from, priority}
+use lib.ListN.{drop_of_length-le}
+use Rattle.rules.specs.Records.{Marks, priority_from}
 use Rattle.records.specs.Packed.{marks_by, places}
 use Rattle.records.proofs.Packing.{decided_turn}
 use Rattle.records.proofs.Record.priority.Goals as goal

@@ -1,13 +1,10 @@
 -- `records::Record::priority` meets its contract. The invariant: the positions from p on make of `best` the whole priority.
-use mathlib.Core.Path.{◌≡◌, refl, sym, ap, ◌∙◌}
-use mathlib.Core.List.{List, ◌∷◌}
-use Prim.Native.Nat.{ℕ, ◌-◌}
-use native.Mathlib.Numerals.{add-one}
-use native.Mathlib.Omega.{arith}
-use lib.ListN.{drop, drop_of_length-le}
-use Rattle.rules.specs.Records.{Marks, priority_from, priority}
+use mathlib.Core.Path.{◌≡◌}
+use mathlib.Core.List.{◌∷◌}
+use Prim.Native.Nat.{◌-◌}
+use lib.ListN.{drop}
+use Rattle.rules.specs.Records.{priority_from, priority}
 use Rattle.records.specs.Packed.{marks_by, places}
-use Rattle.records.proofs.Packing.{decided_turn}
 use Rattle.records.proofs.Record.priority.Given as goal
 
 abbrev pub invariant-loop-p : goal.invariant-loop-p

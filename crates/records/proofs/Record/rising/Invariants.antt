@@ -1,12 +1,9 @@
 -- `records::Record::rising` meets its contract. The invariant: the code holds the pairs of the set above i.
-use mathlib.Core.Path.{◌≡◌, refl, ap, ◌∙◌}
-use mathlib.Core.List.{List}
-use Prim.Native.Nat.{ℕ, ◌-◌, ◌≤◌}
-use native.Mathlib.Omega.{arith}
+use mathlib.Core.Path.{◌≡◌}
+use Prim.Native.Nat.{◌≤◌}
 use lib.ListN.{drop}
 use Rattle.rules.specs.Basics.{keep, tabulate}
 use Rattle.records.specs.Packed.{limit, is_marked, packed}
-use Rattle.records.proofs.Packing.{kept_below, rising_at, rising_below, kept_turn}
 use Rattle.records.proofs.Record.rising.Given as goal
 
 abbrev pub invariant-loop-i : goal.invariant-loop-i

@@ -1,11 +1,7 @@
 -- `survey::counted::gather` meets its contract. The invariant: what the states below q make count is gathered.
-use borrow.Author.Rules.{rules}
-use mathlib.Core.Path.{◌≡◌, refl, ◌∙◌}
-use Prim.Native.Nat.{◌-◌, ◌≤◌}
+use mathlib.Core.Path.{refl, ◌∙◌}
 use native.Mathlib.Nat.{le_antisymm}
 use native.Mathlib.Omega.{arith}
-use lib.ListN.{length}
-use Rattle.survey.specs.Parts.{GatheredIn}
 use Rattle.survey.proofs.counted.gather.Goals as goal
 
 pub required_somewhere-all-requires : goal.required_somewhere-all-requires

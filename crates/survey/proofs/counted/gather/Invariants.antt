@@ -1,9 +1,6 @@
 -- `survey::counted::gather` meets its contract. The invariant: what the states below q make count is gathered.
-use borrow.Author.Rules.{rules}
-use mathlib.Core.Path.{◌≡◌, refl, ◌∙◌}
+use mathlib.Core.Path.{◌≡◌}
 use Prim.Native.Nat.{◌-◌, ◌≤◌}
-use native.Mathlib.Nat.{le_antisymm}
-use native.Mathlib.Omega.{arith}
 use lib.ListN.{length}
 use Rattle.survey.specs.Parts.{GatheredIn}
 use Rattle.survey.proofs.counted.gather.Given as goal

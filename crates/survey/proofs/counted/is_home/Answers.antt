@@ -1,5 +1,4 @@
 -- `survey::counted::is_home` meets its contract.
-use borrow.Author.Rules.{rules}
 use borrow.Author.Tests.{lt-ltb, le-ltb}
 use Rattle.survey.proofs.counted.is_home.Goals as goal
 

@@ -1,5 +1,4 @@
 -- `survey::counted::kept` meets its contract.
-use borrow.Author.Rules.{rules}
 use Rattle.survey.proofs.counted.kept.Goals as goal
 
 pub returns-then-stays : goal.returns-then-stays

@@ -1,9 +1,6 @@
 -- `survey::counted::required_somewhere` meets its contract. The invariant: what the cells below c require is in `all`.
-use borrow.Author.Rules.{rules}
-use Prim.Native.Nat.{◌-◌, ◌≤◌}
 use native.Mathlib.Omega.{arith}
 use native.Mathlib.Nat.{le_antisymm}
-use Rattle.survey.specs.Parts.{RequiredBelow}
 use Rattle.survey.proofs.Surveying.{required_none, required_more}
 use Rattle.survey.proofs.counted.required_somewhere.Goals as goal
 

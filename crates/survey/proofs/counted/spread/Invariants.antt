@@ -1,13 +1,10 @@
 -- `survey::counted::spread` meets its contract. The invariant: below q each state's entry is its component's.
-use borrow.Author.Rules.{rules}
 use mathlib.Core.Path.{◌≡◌}
 use Prim.Native.Nat.{◌-◌, ◌≤◌}
-use native.Mathlib.Nat.{le_antisymm}
-use native.Mathlib.Omega.{arith}
 use lib.Dec.{ltb}
 use lib.ListN.{get_or}
 use Rattle.rules.specs.Basics.{pick}
-use Rattle.rules.proofs.Filling.{Filled, filled_none, filled_more, filled_over}
+use Rattle.rules.proofs.Filling.{Filled}
 use Rattle.survey.proofs.counted.spread.Given as goal
 
 abbrev pub invariant-loop-q : goal.invariant-loop-q

@@ -1,5 +1,4 @@
 -- `survey::counted::write_counted` meets its contract: what counts at each home is gathered, and each state gets its home's.
-use borrow.Author.Rules.{rules}
 use mathlib.Core.Path.{◌≡◌, ap, ◌∙◌}
 use mathlib.Core.List.{List}
 use Prim.Native.Nat.{ℕ}

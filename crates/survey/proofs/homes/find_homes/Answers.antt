@@ -1,5 +1,4 @@
 -- `survey::homes::find_homes` meets its contract: what a table can have fits the local array.
-use borrow.Author.Rules.{rules}
 use mathlib.Core.Path.{◌∙◌}
 use Rattle.survey.proofs.Promises.{homes_fit}
 use Rattle.survey.proofs.homes.find_homes.Goals as goal

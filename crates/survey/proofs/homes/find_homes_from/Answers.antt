@@ -1,5 +1,4 @@
 -- `survey::homes::find_homes_from` meets its contract: what a table can have fits the local array.
-use borrow.Author.Rules.{rules}
 use mathlib.Core.Path.{◌∙◌}
 use borrow.Author.Tests.{lt-ltb}
 use Rattle.rules.proofs.Bools.{and_both}

@@ -1,11 +1,8 @@
 -- `survey::homes::narrow` meets its contract. The invariant: the entries below q are copied.
-use borrow.Author.Rules.{rules}
-use mathlib.Core.Path.{◌≡◌, refl}
-use Prim.Native.Nat.{◌-◌, ◌≤◌}
+use mathlib.Core.Path.{refl}
 use native.Mathlib.Nat.{le_antisymm}
 use native.Mathlib.Omega.{arith}
-use lib.ListN.{get_or}
-use Rattle.rules.proofs.Filling.{Filled, filled_none, filled_more, filled_over}
+use Rattle.rules.proofs.Filling.{filled_none, filled_more, filled_over}
 use Rattle.survey.proofs.homes.narrow.Goals as goal
 
 pub overflow_cast-out : goal.overflow_cast-out

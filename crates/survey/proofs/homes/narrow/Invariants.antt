@@ -1,11 +1,8 @@
 -- `survey::homes::narrow` meets its contract. The invariant: the entries below q are copied.
-use borrow.Author.Rules.{rules}
-use mathlib.Core.Path.{◌≡◌, refl}
+use mathlib.Core.Path.{◌≡◌}
 use Prim.Native.Nat.{◌-◌, ◌≤◌}
-use native.Mathlib.Nat.{le_antisymm}
-use native.Mathlib.Omega.{arith}
 use lib.ListN.{get_or}
-use Rattle.rules.proofs.Filling.{Filled, filled_none, filled_more, filled_over}
+use Rattle.rules.proofs.Filling.{Filled}
 use Rattle.survey.proofs.homes.narrow.Given as goal
 
 abbrev pub invariant-loop-q : goal.invariant-loop-q

@@ -1,12 +1,9 @@
 -- `survey::layout::lay_marks` meets its contract. The invariant: the marks of the cells below c are laid out.
-use borrow.Author.Rules.{rules}
-use mathlib.Core.Path.{◌≡◌}
-use Prim.Native.Nat.{suc, ◌+◌, ◌-◌, ◌*◌, ◌≤◌}
+use Prim.Native.Nat.{◌*◌}
 use native.Mathlib.Nat.{le_antisymm}
 use native.Mathlib.Numerals.{add-one}
 use native.Mathlib.Omega.{arith}
-use lib.ListN.{get_or}
-use Rattle.rules.proofs.Filling.{Filled, filled_none, filled_more, filled_over}
+use Rattle.rules.proofs.Filling.{filled_none, filled_more, filled_over}
 use Rattle.survey.proofs.layout.lay_marks.Goals as goal
 
 pub bounds-marks-c : goal.bounds-marks-c

@@ -1,12 +1,7 @@
 -- `survey::layout::lay_targets` meets its contract. The invariant: the targets of the cells below c are laid out.
-use borrow.Author.Rules.{rules}
-use mathlib.Core.Path.{◌≡◌}
-use Prim.Native.Nat.{◌-◌, ◌≤◌}
 use native.Mathlib.Nat.{le_antisymm}
 use native.Mathlib.Omega.{arith}
-use lib.ListN.{length, get_or}
-use Rattle.rules.proofs.Filling.{Filled, filled_none, filled_more, filled_over}
-use Rattle.survey.specs.Layouts.{wide_target}
+use Rattle.rules.proofs.Filling.{filled_none, filled_more, filled_over}
 use Rattle.survey.proofs.layout.lay_targets.Goals as goal
 
 pub loop-c-preserved : goal.loop-c-preserved

@@ -1,12 +1,7 @@
 -- `tables::check::bad_targets` meets its contract. The invariant: some target is wrong exactly if `bad` says so or one from c on is.
-use mathlib.Core.Path.{◌≡◌, refl, ◌∙◌}
-use mathlib.Core.Bool.{◌||◌}
-use Prim.Native.Nat.{◌-◌, ◌≤◌}
+use mathlib.Core.Path.{refl, ◌∙◌}
 use native.Mathlib.Omega.{arith}
 use borrow.Author.Rules.{rules}
-use lib.ListN.{length, drop}
-use Rattle.rules.specs.Limits.{no_state}
-use Rattle.rules.specs.Tables.{bad_targets}
 use Rattle.rules.proofs.Sets.{any_turn, any_end}
 use Rattle.tables.proofs.check.bad_targets.Goals as goal
 

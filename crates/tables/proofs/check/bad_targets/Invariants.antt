@@ -1,13 +1,10 @@
 -- `tables::check::bad_targets` meets its contract. The invariant: some target is wrong exactly if `bad` says so or one from c on is.
-use mathlib.Core.Path.{◌≡◌, refl, ◌∙◌}
+use mathlib.Core.Path.{◌≡◌}
 use mathlib.Core.Bool.{◌||◌}
 use Prim.Native.Nat.{◌-◌, ◌≤◌}
-use native.Mathlib.Omega.{arith}
-use borrow.Author.Rules.{rules}
 use lib.ListN.{length, drop}
 use Rattle.rules.specs.Limits.{no_state}
 use Rattle.rules.specs.Tables.{bad_targets}
-use Rattle.rules.proofs.Sets.{any_turn, any_end}
 use Rattle.tables.proofs.check.bad_targets.Given as goal
 
 abbrev pub invariant-loop-c : goal.invariant-loop-c

@@ -1,5 +1,4 @@
 -- `translate::encode::encode_table` meets its contract.
-use borrow.Author.Rules.{rules}
 use Rattle.survey.proofs.Tables.{many_cells}
 use Rattle.translate.proofs.encode.encode_table.Goals as goal
 

@@ -1,8 +1,6 @@
 -- `translate::rows::clear_u16` meets its contract. The invariant: the places from `from` up to i are cleared.
-use Prim.Native.Nat.{◌-◌, ◌≤◌}
 use native.Mathlib.Nat.{le_antisymm, le_refl}
 use native.Mathlib.Omega.{arith}
-use Rattle.rules.specs.Arrays.{Cleared}
 use Rattle.rules.proofs.Filling.{cleared_none, cleared_more}
 use Rattle.translate.proofs.rows.clear_u16.Goals as goal
 
