@@ -276,8 +276,8 @@ module _ (place : ℕ) (parents letters : List ℕ) where
       }
 
   -- another letter can be written
-  abbrev goes_on_lem : List ℕ → ℕ → ℕ → Bool
-  goes_on_lem out begin i = not (eqb i 0) && (not (eqb begin 0) && (ltb i (length parents) && ltb i (length letters)))
+  abbrev goes_on : List ℕ → ℕ → ℕ → Bool
+  goes_on out begin i = not (eqb i 0) && (not (eqb begin 0) && (ltb i (length parents) && ltb i (length letters)))
 
   module _ (old out : List ℕ) (begin i : ℕ) (size : length out ≡ length old) (x : Leading place parents letters old out begin i) where
     pub leading_more : (i ≡ 0 → ⊥) → (begin ≡ 0 → ⊥)
@@ -290,7 +290,7 @@ module _ (place : ℕ) (parents letters : List ℕ) where
           leads = λ early room. let r = x.leads early room in let e = early i (omega arith) r.0 in (omega arith, omega (arith, r.1), rw (drop_set out begin (at letters i) (omega arith) (omega (arith, x.within))) (leads_more (at parents) (at letters) place i (drop begin out) (omega arith) r.0 r.2));
         }
 
-    pub leading_all : goes_on_lem out begin i ≡ false → PathFound place parents letters old out begin
+    pub leading_all : goes_on out begin i ≡ false → PathFound place parents letters old out begin
     leading_all stops =
         record {
           within = x.within;

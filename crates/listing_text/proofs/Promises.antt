@@ -82,7 +82,7 @@ module _ {bs : List ℕ} {c : ℕ} {ts ts' ps ps' ss ss' es es' : List ℕ} {row
       record {
         most_rows = rw says.count (le_trans facts.rows_fit facts.arrays.most_rows);
         most_letters = facts.table.sizes.most_letters;
-        target_cells_lem = omega (arith, target_length, front_length k (row_targets bs c) ts ts' says.target_array);
+        target_cells = omega (arith, target_length, front_length k (row_targets bs c) ts ts' says.target_array);
         priority_cells = omega (arith, priority_length, front_length k (row_priorities bs c) ps ps' says.priority_array);
         states = omega (arith, state_length, front_length c (source_states bs c) ss ss' says.source_array);
         records = omega (arith, record_length, front_length c (record_numbers bs c) es es' says.record_array);

@@ -20,7 +20,7 @@ pub record Wrote (at : ℕ) (t o o' : List ℕ) (r : ℕ) : Type 0 where
 pub record Shown (n m : ℕ) (ts ps ss es : List ℕ) : Type 0 where
   pub most_rows : n ≤ max_rows
   pub most_letters : m ≤ max_letters
-  pub target_cells_lem : n * m ≤ length ts
+  pub target_cells : n * m ≤ length ts
   pub priority_cells : n * m ≤ length ps
   pub states : n ≤ length ss
   pub records : n ≤ length es

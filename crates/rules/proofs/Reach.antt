@@ -178,19 +178,19 @@ module _ (s : System) where
   pub within_view : (b : ℕ → ℕ → Bool) (q : ℕ) → (some_within s b q ≡ true) ↔ Within b q
   unfolding some_within
   within_view b q =
-      (found, λ m. below_intro s.states at_state m.state m.is_state (and_both (together s q m.state) (any_below s.letters (by_letter_lem m.state)) m.near (below_intro s.letters (by_letter_lem m.state) m.letter m.is_letter (and_both (is_inside s m.state m.letter) (b m.state m.letter) m.inside m.passes))))
+      (found, λ m. below_intro s.states at_state m.state m.is_state (and_both (together s q m.state) (any_below s.letters (by_letter m.state)) m.near (below_intro s.letters (by_letter m.state) m.letter m.is_letter (and_both (is_inside s m.state m.letter) (b m.state m.letter) m.inside m.passes))))
     where
-      by_letter_lem : ℕ → ℕ → Bool
-      by_letter_lem p a = is_inside s p a && b p a
+      by_letter : ℕ → ℕ → Bool
+      by_letter p a = is_inside s p a && b p a
 
       at_state : ℕ → Bool
-      at_state p = together s q p && any_below s.letters (by_letter_lem p)
+      at_state p = together s q p && any_below s.letters (by_letter p)
 
       found : any_below s.states at_state ≡ true → Within b q
       found h =
           let f = below_find s.states at_state h in
-          let r = and_parts (together s q f.0) (any_below s.letters (by_letter_lem f.0)) f.2 in
-          let g = below_find s.letters (by_letter_lem f.0) r.1 in
+          let r = and_parts (together s q f.0) (any_below s.letters (by_letter f.0)) f.2 in
+          let g = below_find s.letters (by_letter f.0) r.1 in
           let i = and_parts (is_inside s f.0 g.0) (b f.0 g.0) g.2 in
           record { state = f.0; letter = g.0; is_state = f.1; is_letter = g.1; near = r.0; inside = i.0; passes = i.1 }
 

@@ -167,7 +167,7 @@ pub record ParityFacts (n m : ℕ) (ts ps : List ℕ) : Type 0 where
   pub most_rows : n ≤ max_rows
   pub some_letters : 1 ≤ m
   pub most_letters : m ≤ max_letters
-  pub target_cells_lem : n * m ≤ length ts
+  pub target_cells : n * m ≤ length ts
   pub priority_cells : n * m ≤ length ps
   pub most_cells : n * m ≤ max_rows * max_letters
 
@@ -184,7 +184,7 @@ parity_facts n m ts ps h =
       most_rows = a.1;
       some_letters = b.0;
       most_letters = b.1;
-      target_cells_lem = ltb-false (length ts) (n * m) c.0;
+      target_cells = ltb-false (length ts) (n * m) c.0;
       priority_cells = ltb-false (length ps) (n * m) d.0;
       most_cells = mul-le-mul a.1 b.1;
     }

@@ -37,7 +37,7 @@ module _ (c : tie.Else-not-components_fit invariant-loop decreases-loop) where
   room = let a = start.args in components_room a.states a.letters a.targets.now a.work.now a.out.now fit
 
 returns-then-not-components_fit : tie.Need-returns-then-not-components_fit invariant-loop decreases-loop
-returns-then-not-components_fit c = record { answer = sym (c.if-not-components_fit.true) ∙ c.components_fit.ensures; array = refl; meaning = λ e. absurd (false≢true e) }
+returns-then-not-components_fit c = record { answer = sym c.if-not-components_fit.true ∙ c.components_fit.ensures; array = refl; meaning = λ e. absurd (false≢true e) }
 
 loop-q-init : tie.Need-loop-q-init invariant-loop decreases-loop
 loop-q-init c =

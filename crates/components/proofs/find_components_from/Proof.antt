@@ -35,7 +35,7 @@ module _ (c : tie.Else-not-fits-from) where
       (r.0, r.1, ltb-true a.from a.states p.1)
 
 returns-then-not-fits-from : tie.Need-returns-then-not-fits-from
-returns-then-not-fits-from c = record { answer = sym (c.if-not-fits-from.true) ∙ ap (λ (b : Bool). b && ltb c.args.from c.args.states) c.components_fit-fits.ensures; array = refl }
+returns-then-not-fits-from c = record { answer = sym c.if-not-fits-from.true ∙ ap (λ (b : Bool). b && ltb c.args.from c.args.states) c.components_fit-fits.ensures; array = refl }
 
 -- both arrays are written
 module _ (c : tie.After-fill-2) where

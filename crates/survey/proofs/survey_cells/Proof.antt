@@ -15,7 +15,7 @@ room : (c : tie.Else-not-fits) → let a = c.args in
 room c = survey_room _ _ _ _ _ _ (sym c.survey_fits-fits.ensures ∙ c.if-not-fits.false)
 
 returns-then-not-fits : tie.Need-returns-then-not-fits
-returns-then-not-fits c = record { answer = sym (c.if-not-fits.true) ∙ c.survey_fits-fits.ensures; home_array = refl; counted_array = refl }
+returns-then-not-fits c = record { answer = sym c.if-not-fits.true ∙ c.survey_fits-fits.ensures; home_array = refl; counted_array = refl }
 
 find_homes-requires : tie.Need-find_homes-requires
 find_homes-requires c κs =

@@ -28,11 +28,11 @@ room : (c : tie.Else-not-fits-from) → let a = c.args in
     × (a.from < a.states)
 room c =
     let a = c.args in
-    let p = and_parts c.survey_fits-fits.result (ltb a.from a.states) (c.if-not-fits-from.false) in
+    let p = and_parts c.survey_fits-fits.result (ltb a.from a.states) c.if-not-fits-from.false in
     (survey_room _ _ _ _ _ _ (sym c.survey_fits-fits.ensures ∙ p.0), ltb-true a.from a.states p.1)
 
 returns-then-not-fits-from : tie.Need-returns-then-not-fits-from
-returns-then-not-fits-from c = record { answer = sym (c.if-not-fits-from.true) ∙ tested c.before; home_array = refl; counted_array = refl }
+returns-then-not-fits-from c = record { answer = sym c.if-not-fits-from.true ∙ tested c.before; home_array = refl; counted_array = refl }
 
 find_homes_from-requires : tie.Need-find_homes_from-requires
 find_homes_from-requires c κs =

@@ -59,10 +59,10 @@ module _ (c : tie.In-loop-i invariant-loop decreases-loop) where
   found = get_or (take (length s.args.targets.now - letter) (drop letter s.args.targets.now)) (place * s.args.letters) 0
 
   cell_found : found ≡ get_or s.args.targets.now (place * s.args.letters + letter) 0
-  cell_found = column_at s.args.targets.now letter (place * s.args.letters) (omega (arith, within, table.target_cells_lem))
+  cell_found = column_at s.args.targets.now letter (place * s.args.letters) (omega (arith, within, table.target_cells))
 
   goes : system.go place letter ≡ found
-  goes = get_d_any s.args.targets.now (place * s.args.letters + letter) no_row 0 (omega (arith, within, table.target_cells_lem)) ∙ sym cell_found
+  goes = get_d_any s.args.targets.now (place * s.args.letters + letter) no_row 0 (omega (arith, within, table.target_cells)) ∙ sym cell_found
 
 overflow_cast-letter : tie.Need-overflow_cast-letter invariant-loop decreases-loop
 overflow_cast-letter c = omega (arith, letter_ok c.before, (table c.before).most_letters)
@@ -74,20 +74,20 @@ offset_bounds-targets-letter : tie.Need-offset_bounds-targets-letter invariant-l
 offset_bounds-targets-letter c = omega (arith, letter_ok c.before, (table c.before).most_letters)
 
 slice_bounds-column-count : tie.Need-slice_bounds-column-count invariant-loop decreases-loop
-slice_bounds-column-count c = omega (arith, within c.before, (table c.before).target_cells_lem)
+slice_bounds-column-count c = omega (arith, within c.before, (table c.before).target_cells)
 
 slice_bounds-column-start : tie.Need-slice_bounds-column-start invariant-loop decreases-loop
-slice_bounds-column-start c = omega (arith, within c.before, (table c.before).target_cells_lem)
+slice_bounds-column-start c = omega (arith, within c.before, (table c.before).target_cells)
 
 slice_bounds-column-end : tie.Need-slice_bounds-column-end invariant-loop decreases-loop
-slice_bounds-column-end c = omega (arith, within c.before, (table c.before).target_cells_lem)
+slice_bounds-column-end c = omega (arith, within c.before, (table c.before).target_cells)
 
 offset_bounds-column-first : tie.Need-offset_bounds-column-first invariant-loop decreases-loop
 offset_bounds-column-first c = omega (arith, within c.before.before, (table c.before.before).most_cells)
 
 bounds-column-first : tie.Need-bounds-column-first invariant-loop decreases-loop
 bounds-column-first c =
-    let t = c.before.before.before in omega (arith, within t, (table t).target_cells_lem, column_long (s t).args.targets.now (letter t) (omega (arith, within t, (table t).target_cells_lem)))
+    let t = c.before.before.before in omega (arith, within t, (table t).target_cells, column_long (s t).args.targets.now (letter t) (omega (arith, within t, (table t).target_cells)))
 
 overflow_cast-target : tie.Need-overflow_cast-target invariant-loop decreases-loop
 overflow_cast-target c =
