@@ -6,11 +6,14 @@
 
 ghost use Rattle.std.specs.Prelude.{◌≡◌};
 ghost use Rattle.rules.specs.Says.{RabinSays, ParitySays, TranslateSays, row_arrays};
+ghost use Rattle.rules.specs.Numbered.{number_in};
 ghost use Rattle.rules.specs.Tables.{table_of};
+ghost use Rattle.translate.specs.Answers.{rows_in};
 ghost use Rattle.judge.specs.Judgements.{answer_of};
 
 use judge::{Judged, judge_parity};
 use judge_rabin::judge_rabin;
+use rules::refusal::{Refusal, number_in};
 use std::io;
 use tables::letters_of;
 use translate::translate_table;
@@ -23,8 +26,7 @@ const CELLS: usize = 8;
 // What the translator gives, and the answers of both tables.
 #[derive(Clone, Copy)]
 struct Verdicts {
-    number: u8,
-    rows: usize,
+    translation: Result<usize, Refusal>,
     rabin: Judged,
     parity: Judged,
 }
@@ -40,31 +42,18 @@ fn judge_both(
     sources: &mut [u8],
     records: &mut [u32],
 ) -> Verdicts
-    ensures translation { TranslateSays table.now capacity (row_arrays targets.old priorities.old sources.old records.old) (row_arrays targets.new priorities.new sources.new records.new) result.number result.rows }
+    ensures translation { TranslateSays table.now capacity (row_arrays targets.old priorities.old sources.old records.old) (row_arrays targets.new priorities.new sources.new records.new) (number_in result.translation) (rows_in result.translation) }
     ensures rabin { RabinSays table.now lead.now looped.now (answer_of result.rabin) }
-    ensures parity { ParitySays result.rows (table_of table.now).letters targets.new priorities.new lead.now looped.now (answer_of result.parity) }
-    ensures agree { result.number ≡ 0 → result.parity ≡ result.rabin }
+    ensures parity { ParitySays (rows_in result.translation) (table_of table.now).letters targets.new priorities.new lead.now looped.now (answer_of result.parity) }
+    ensures agree { number_in result.translation ≡ 0 → result.parity ≡ result.rabin }
 {
     let translation = translate_table(table, capacity, targets, priorities, sources, records);
-    let rabin = judge_rabin(table, lead, looped);
-    let letters = letters_of(table) as usize;
-    let rows = translation.rows;
-    let parity = judge_parity(rows, letters, targets, priorities, lead, looped);
+    let rows = translation.unwrap_or(0);
+    let letters = usize::from(letters_of(table));
     Verdicts {
-        number: translation.number,
-        rows,
-        rabin,
-        parity,
-    }
-}
-
-// Prints an answer and a blank.
-fn put_answer(rt: &impl Print, answer: Judged) -> io::Result<()> {
-    match answer {
-        Judged::Accepts => print!(rt; "accepts "),
-        Judged::Rejects => print!(rt; "rejects "),
-        Judged::Stops(read) => print!(rt; "stops {read} "),
-        Judged::Refused(number) => print!(rt; "refused {number} "),
+        translation,
+        rabin: judge_rabin(table, lead, looped),
+        parity: judge_parity(rows, letters, targets, priorities, lead, looped),
     }
 }
 
@@ -90,13 +79,12 @@ fn run(
         &mut sources,
         &mut records,
     );
-    let rabin = verdicts.rabin;
-    let parity = verdicts.parity;
-    let number = verdicts.number;
-    print!(rt; "{number} ")?;
-    put_answer(rt, rabin)?;
-    put_answer(rt, parity)?;
-    println!(rt; "")
+    println!(rt;
+        "{} {} {} ",
+        number_in(verdicts.translation),
+        verdicts.rabin,
+        verdicts.parity
+    )
 }
 
 fn main(rt: HostRuntime) -> io::Result<()> {

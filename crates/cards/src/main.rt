@@ -4,41 +4,29 @@
 #![tactic(auto)]
 
 use judge::Judged;
-use marked::{count_card, judge_card, move_card, translate_card};
+use marked::{Arrays, count_card, judge_card, move_card, translate_card};
 use records::Record;
+use rules::refusal::number_in;
 use std::io;
-use translate::translate_table;
 
 mod marked;
 
-ghost use Rattle.std.specs.Prelude.{◌≡◌, ◌<◌, length};
+ghost use Rattle.std.specs.Prelude.{◌≡◌, ◌<◌, ◌≤◌, length};
 ghost use Rattle.rules.specs.Tables.{table_of, table_fault};
 ghost use Rattle.rules.specs.Cards.{judged, moves, counted, IsCard};
 ghost use Rattle.records.specs.Packed.{packed, pairs_in};
 ghost use Rattle.judge.specs.Judgements.{answer_of};
 ghost use Rattle.cards.specs.Marked.{pairs_of, HasCard};
 
-// The rows lent at most, and the cells.
+// The table T: two states, two letters, two pairs.
+const T: &[u8] = b"\x02\x02\x02\x00\x00\x01\x00\x01\x01\x02\x00\x00\x00\x01\x02\x00";
+
+// The rows that are lent for it, and their cells.
 const ROWS: usize = 5;
 
 const CELLS: usize = 10;
 
-// Prints an answer and a blank.
-fn put_answer(rt: &impl Print, answer: Judged) -> io::Result<()> {
-    match answer {
-        Judged::Accepts => print!(rt; "accepts "),
-        Judged::Rejects => print!(rt; "rejects "),
-        Judged::Stops(read) => print!(rt; "stops {read} "),
-        Judged::Refused(number) => print!(rt; "refused {number} "),
-    }
-}
-
-// Prints a cell: its target and its priority.
-fn put_cell(rt: &impl Print, target: u16, priority: u8) -> io::Result<()> {
-    print!(rt; "{target} {priority} ")
-}
-
-// One row: its source state and its record's number, then the target and the priority of both its letters.
+// Prints a row: its source state and its record's number, then the target and the priority of both its letters.
 fn put_row(
     rt: &impl Print,
     state: u8,
@@ -46,45 +34,27 @@ fn put_row(
     targets: &[u16],
     priorities: &[u8],
 ) -> io::Result<()>
-    requires { (length targets.now ≡ 2) × (length priorities.now ≡ 2) }
+    requires { (2 ≤ length targets.now) × (2 ≤ length priorities.now) }
 {
-    print!(rt; "{state} {record} ")?;
-    put_cell(rt, targets[0], priorities[0])?;
-    put_cell(rt, targets[1], priorities[1])?;
-    println!(rt; "")
+    println!(rt;
+        "{state} {record} {} {} {} {} ",
+        targets[0], priorities[0], targets[1], priorities[1]
+    )
 }
 
 // Translates T with a capacity: the number and the rows, then every row lent.
 fn run(rt: &impl Print, capacity: usize) -> io::Result<()> {
-    let table = b"\x02\x02\x02\x00\x00\x01\x00\x01\x01\x02\x00\x00\x00\x01\x02\x00";
-    let mut targets = [9; CELLS];
-    let mut priorities = [9; CELLS];
-    let mut sources = [9; ROWS];
-    let mut records = [9; ROWS];
-    let result = translate_table(
-        table,
-        capacity,
-        &mut targets,
-        &mut priorities,
-        &mut sources,
-        &mut records,
-    );
-    let number = result.number;
-    let rows = result.rows;
-    println!(rt; "{number} {rows} ")?;
-    let mut i = 0;
-    // the rows below i are printed
-    while i < ROWS {
-        let first = 2 * i;
-        let end = first + 2;
+    let mut arrays = Arrays::<ROWS, CELLS>::full_of(9);
+    let result = arrays.translate(T, capacity);
+    println!(rt; "{} {} ", number_in(result), result.unwrap_or(0))?;
+    for row in 0..ROWS {
         put_row(
             rt,
-            sources[i],
-            records[i],
-            &targets[first..end],
-            &priorities[first..end],
+            arrays.sources[row],
+            arrays.records[row],
+            &arrays.targets[2 * row..],
+            &arrays.priorities[2 * row..],
         )?;
-        i += 1;
     }
     Ok(())
 }
@@ -100,63 +70,47 @@ fn run_word(
     requires { IsCard (judged table.now lead.now looped.now (answer_of expected)) }
 {
     let verdicts = judge_card(table, lead, looped, expected);
-    let rabin = verdicts.rabin;
-    let parity = verdicts.parity;
-    put_answer(rt, rabin)?;
-    put_answer(rt, parity)?;
-    println!(rt; "")
+    println!(rt; "{} {} ", verdicts.rabin, verdicts.parity)
 }
 
 // Runs the card of a translation: how many rows, then the first row's source state and record, and the first two cells.
 fn run_translation(rt: &impl Print, table: &[u8]) -> io::Result<()>
     requires { HasCard table.now }
 {
-    let mut targets = [0; marked::CELLS];
-    let mut priorities = [0; marked::CELLS];
-    let mut sources = [0; marked::ROWS];
-    let mut records = [0; marked::ROWS];
-    let rows = translate_card(
-        table,
-        &mut targets,
-        &mut priorities,
-        &mut sources,
-        &mut records,
-    );
-    let state = sources[0];
-    let record = records[0];
-    print!(rt; "{rows} {state} {record} ")?;
-    put_cell(rt, targets[0], priorities[0])?;
-    put_cell(rt, targets[1], priorities[1])?;
-    println!(rt; "")
+    let mut arrays = Arrays::full_of(0);
+    let rows = translate_card(table, &mut arrays);
+    print!(rt; "{rows} ")?;
+    put_row(
+        rt,
+        arrays.sources[0],
+        arrays.records[0],
+        &arrays.targets,
+        &arrays.priorities,
+    )
 }
 
 // Runs the card of a move: the number of the record.
 fn run_move(rt: &impl Print, before: Record, pairs: u8, expected: Record) -> io::Result<()>
     requires { IsCard (moves (pairs_in before.code) (pairs_of pairs) (pairs_in expected.code)) × (before.code ≡ packed (pairs_in before.code)) }
 {
-    let moved = move_card(before, pairs, expected);
-    let number = moved.number();
-    println!(rt; "{number} ")
+    println!(rt; "{} ", move_card(before, pairs, expected).number())
 }
 
 // Runs the card of the pairs that count at a state: the number of their record.
 fn run_count(rt: &impl Print, table: &[u8], state: u8, expected: Record) -> io::Result<()>
     requires { IsCard (counted table.now state (pairs_in expected.code)) × (table_fault table.now ≡ 0) × (state < (table_of table.now).states) }
 {
-    let rising = count_card(table, state, expected);
-    let number = rising.number();
-    println!(rt; "{number} ")
+    println!(rt; "{} ", count_card(table, state, expected).number())
 }
 
 // The cards of T.
 fn run_t(rt: &impl Print) -> io::Result<()> {
-    let t = b"\x02\x02\x02\x00\x00\x01\x00\x01\x01\x02\x00\x00\x00\x01\x02\x00";
-    run_word(rt, t, b"", b"\x00", Judged::Accepts)?;
-    run_word(rt, t, b"", b"\x01", Judged::Rejects)?;
-    run_word(rt, t, b"", b"\x00\x01", Judged::Accepts)?;
-    run_word(rt, t, b"", b"\x01\x01\x00", Judged::Accepts)?;
-    run_word(rt, t, b"", b"\x01\x01\x00\x00", Judged::Rejects)?;
-    run_translation(rt, t)
+    run_word(rt, T, b"", b"\x00", Judged::Accepts)?;
+    run_word(rt, T, b"", b"\x01", Judged::Rejects)?;
+    run_word(rt, T, b"", b"\x00\x01", Judged::Accepts)?;
+    run_word(rt, T, b"", b"\x01\x01\x00", Judged::Accepts)?;
+    run_word(rt, T, b"", b"\x01\x01\x00\x00", Judged::Rejects)?;
+    run_translation(rt, T)
 }
 
 // The cards of moves, a record by its code: 123 gives 312 and 231, and 321 gives 213.

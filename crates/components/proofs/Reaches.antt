@@ -1,9 +1,9 @@
 -- A search from one state on, for any system and whatever the arrays are.
---     reached_start, reached_old, reached_new, reached_letters                  the first state; one letter more, to a state that is met or not; all letters of a state
+--     reached_old, reached_new                                                  one letter more, to a state that is met or not
 --     reached_path                                                              a path leads to every state that is met, with fewer letters than its number
---     untouched_none, untouched_then, untouched_start                           entries past the states that are met: nothing is written, one writing after another, the
---                                                                               numbers are cleared and the first state is met
---     Reaching, reach_room_kept, reaching_none, reaching_more, reached_own      the search underway
+--     untouched_none, untouched_then                                            entries past the states that are met: nothing is written, one writing after another
+--     Reaching, reach_room_kept, reaching_more                                  the search underway
+--     read_old, reaching_all                                                    a letter leads to nothing new; all letters are read
 --     FromEarlier, LeadsOn, Leading, leading_none, leading_more, leading_all    a path written from its end
 --     reached_exact                                                             when all letters are read, what is met is what is reached
 use mathlib.Core.Path.{◌≡◌, refl, sym, ap, ◌∙◌}
@@ -12,6 +12,7 @@ use mathlib.Core.List.{List, [], ◌∷◌, ◌++◌}
 use mathlib.Core.Logic.{◌↔◌}
 use Prim.Native.Nat.{ℕ, zero, suc, ◌+◌, ◌-◌, ◌<◌, ◌≤◌}
 use native.Mathlib.Numerals.{add-one}
+use native.Mathlib.Nat.{le_antisymm}
 use native.Mathlib.Omega.{arith}
 use lib.Dec.{eqb, ltb}
 use lib.ListN.{length, take, drop, set, length-append}
@@ -19,35 +20,15 @@ use lib.Seq.{drop-cons, drop-length, drop-set-lt, get_or-set_same, lt-length-set
 use borrow.Author.Tests.{eqb-true, lt-ltb}
 use Rattle.rules.specs.Systems.{System, Path, here, step, Leads}
 use Rattle.rules.proofs.Bools.{by, clash}
-use Rattle.rules.proofs.Filling.{beyond_none, beyond_set, beyond_then, beyond_wider}
+use Rattle.rules.proofs.Filling.{beyond_none, beyond_then, beyond_wider}
 use Rattle.rules.proofs.Reach.{path_append}
-use Rattle.components.specs.Places.{at, Put, FilledWith}
-use Rattle.components.specs.Reaches.{Came, Queued, ReachRoom, Untouched, ReadSays}
+use Rattle.components.specs.Places.{at, Put}
+use Rattle.components.specs.declared.reach.Met.{Met}
+use Rattle.components.specs.Reaches.{Came, Queued, Untouched, ReachSays}
+use Rattle.components.specs.Meeting.{ReachRoom, QueuedIn, SameArrays, ReadSays}
 use Rattle.components.specs.Calls.{PathFound}
 use Rattle.rules.proofs.Reaching.{kept_along}
 use Rattle.components.proofs.Searches.{same_or, room}
-
-pub reached_start : (s : System) (from : ℕ) (number number' queue queue' parent letter : ℕ → ℕ) → from < s.states → ((q : ℕ) → q < s.states → number q ≡ 0)
-    → Put number number' from 1 → Put queue queue' 0 from → Queued s from 1 0 0 number' queue' parent letter
-reached_start s from number number' queue queue' parent letter l z pn pq =
-    record {
-      places = record {
-        few = omega arith;
-        state = λ i h. let e : i ≡ 0 = omega arith in rw (e, pq.here) l;
-        numbered = λ i h. let e : i ≡ 0 = omega arith in rw (e, pq.here) pn.here;
-        placed = λ q lq nq oq. same_or q from (λ e. rw (e, pn.here) pq.here) (λ d. absurd (omega (arith, pn.others q d, z q lq)));
-        done = λ q lq h. absurd (omega (arith, numbered q lq));
-      };
-      low = numbered;
-      some = omega arith;
-      first = pq.here;
-      came = λ i h g. absurd (omega arith);
-      closed = λ i b h. absurd (omega arith);
-      part = λ b h. absurd (omega arith);
-    }
-  where
-    numbered : (q : ℕ) → q < s.states → number' q ≤ 1
-    numbered q lq = same_or q from (λ e. rw (e, pn.here) (omega arith)) (λ d. omega (arith, pn.others q d, z q lq))
 
 module _ (s : System) (from c k a : ℕ) (number queue parent letter : ℕ → ℕ) (x : Queued s from c k a number queue parent letter) where
   pub reached_old : (s.go (queue k) a < s.states → 0 < number (s.go (queue k) a)) → Queued s from c k (a + 1) number queue parent letter
@@ -60,18 +41,6 @@ module _ (s : System) (from c k a : ℕ) (number queue parent letter : ℕ → �
         came = x.came;
         closed = x.closed;
         part = λ b l t. same_or b a (λ e. rw e (h (rw e at t))) (λ d. x.part b (omega arith) t);
-      }
-
-  pub reached_letters : s.letters ≤ a → Queued s from c (k + 1) 0 number queue parent letter
-  reached_letters h =
-      record {
-        places = x.places;
-        low = x.low;
-        some = x.some;
-        first = x.first;
-        came = x.came;
-        closed = λ i b l lb t. same_or i k (λ e. rw e (x.part b (omega arith) (rw e at t))) (λ d. x.closed i b (omega arith) lb t);
-        part = λ b l. absurd (omega arith);
       }
 
   module _ (lk : k < c) (la : a < s.letters) (lt : s.go (queue k) a < s.states) (fresh : number (s.go (queue k) a) ≡ 0)
@@ -162,10 +131,11 @@ module _ (s : System) (from c k a : ℕ) (number queue parent letter : ℕ → �
           (t, rw e at (x.closed (number y - 1) b (omega (arith, x.low y h.0, h.1)) lb (rw e t)))
 
 -- ---- the search underway, since its arrays were as those without a prime
-pub record Reaching (s : System) (from c k a : ℕ) (targets numbers numbers' queue queue' parents parents' letters letters' : List ℕ) : Type 0 where
-  pub reached : Queued s from c k a (at numbers') (at queue') (at parents') (at letters')
-  pub room : ReachRoom s targets numbers' queue' parents' letters'
-  pub untouched : Untouched s.states c numbers numbers' queue queue' parents parents' letters letters'
+pub record Reaching (s : System) (from k a : ℕ) (m m' : Met) : Type 0 where
+  pub reached : Queued s from m'.count k a (at m'.numbers.now) (at m'.queue.now) (at m'.parents.now) (at m'.by.now)
+  pub room : ReachRoom s m'
+  pub untouched : Untouched s.states m'.count m.numbers.now m'.numbers.now m.queue.now m'.queue.now m.parents.now m'.parents.now m.by.now m'.by.now
+  pub same : SameArrays m m'
 
 pub untouched_none : (n c : ℕ) (numbers queue parents letters : List ℕ) → Untouched n c numbers numbers queue queue parents parents letters letters
 untouched_none n c numbers queue parents letters =
@@ -182,54 +152,48 @@ untouched_then l x y =
       past_letters = beyond_then (beyond_wider l x.past_letters) y.past_letters;
     }
 
--- the numbers are cleared, and the first state is met
-pub untouched_start : {n : ℕ} {numbers : List ℕ} (cleared queue parents letters : List ℕ) (from : ℕ) → FilledWith n 0 numbers cleared → from < n
-    → Untouched n 1 numbers (set cleared from 1) queue (set queue 0 from) parents parents letters letters
-untouched_start cleared queue parents letters from x l =
-    record {
-      past_numbers = beyond_then (record { size = x.size; same = x.rest }) (beyond_set _ cleared from 1 l);
-      past_queue = beyond_set 1 queue 0 from (omega arith);
-      past_parents = beyond_none 1 parents;
-      past_letters = beyond_none 1 letters;
-    }
-
-pub reach_room_kept : (s : System) (c : ℕ) (targets numbers numbers' queue queue' parents parents' letters letters' : List ℕ) → ReachRoom s targets numbers queue parents letters
-    → Untouched s.states c numbers numbers' queue queue' parents parents' letters letters' → ReachRoom s targets numbers' queue' parents' letters'
-reach_room_kept s c targets numbers numbers' queue queue' parents parents' letters letters' r u =
+pub reach_room_kept : (s : System) (c : ℕ) (m m' : Met) → ReachRoom s m
+    → Untouched s.states c m.numbers.now m'.numbers.now m.queue.now m'.queue.now m.parents.now m'.parents.now m.by.now m'.by.now → ReachRoom s m'
+reach_room_kept s c m m' r u =
     record {
       small = r.small;
       letters_small = r.letters_small;
-      cell_room = r.cell_room;
       number_room = rw u.past_numbers.size r.number_room;
       queue_room = rw u.past_queue.size r.queue_room;
       parent_room = rw u.past_parents.size r.parent_room;
       letter_room = rw u.past_letters.size r.letter_room;
     }
 
-pub reaching_none : (s : System) (from c k a : ℕ) (targets numbers queue parents letters : List ℕ) → Queued s from c k a (at numbers) (at queue) (at parents) (at letters)
-    → ReachRoom s targets numbers queue parents letters → Reaching s from c k a targets numbers numbers queue queue parents parents letters letters
-reaching_none s from c k a targets numbers queue parents letters x r =
-    record { reached = x; room = r; untouched = untouched_none s.states c numbers queue parents letters }
+pub reaching_more : (s : System) (from k a k' a' : ℕ) (m m' m'' : Met) → Reaching s from k a m m' → ReadSays s m' m'' k' a' → Reaching s from k' a' m m''
+reaching_more s from k a k' a' m m' m'' x y =
+    record {
+      reached = rw x.reached.first at y.reached;
+      room = reach_room_kept s m''.count m' m'' x.room y.untouched;
+      untouched = untouched_then y.more x.untouched y.untouched;
+      same = record {
+        numbers = y.same.numbers ∙ x.same.numbers;
+        queue = y.same.queue ∙ x.same.queue;
+        parents = y.same.parents ∙ x.same.parents;
+        by = y.same.by ∙ x.same.by;
+      };
+    }
 
--- the first state of the queue is that from which the search goes
-pub reached_own : (s : System) (from c k a : ℕ) (number queue parent letter : ℕ → ℕ) → Queued s from c k a number queue parent letter
-    → Queued s (queue 0) c k a number queue parent letter
-reached_own s from c k a number queue parent letter x = let e : from ≡ queue 0 = sym x.first in from_as e x
-  where
-    from_as : {f g : ℕ} → f ≡ g → Queued s f c k a number queue parent letter → Queued s g c k a number queue parent letter
-    from_as e y = rw e at y
+-- a letter leads to no state that is not yet met
+pub read_old : (s : System) (m : Met) (k a : ℕ) → QueuedIn s m k a → (s.go (at m.queue.now k) a < s.states → 0 < at m.numbers.now (s.go (at m.queue.now k) a))
+    → ReadSays s m m k (a + 1)
+read_old s m k a x h =
+    record {
+      reached = reached_old _ _ _ _ _ _ _ _ _ x.queued h;
+      more = omega arith;
+      untouched = untouched_none s.states m.count m.numbers.now m.queue.now m.parents.now m.by.now;
+      same = record { numbers = refl; queue = refl; parents = refl; by = refl };
+    }
 
-module _ (s : System) (from c k a c' k' a' : ℕ) (targets numbers numbers' numbers'' queue queue' queue'' parents parents' parents'' letters letters' letters'' : List ℕ)
-    (x : Reaching s from c k a targets numbers numbers' queue queue' parents parents' letters letters')
-    (y : ReadSays s c c' k' a' numbers' numbers'' queue' queue'' parents' parents'' letters' letters'')
-  where
-    pub reaching_more : Reaching s from c' k' a' targets numbers numbers'' queue queue'' parents parents'' letters letters''
-    reaching_more =
-        record {
-          reached = rw x.reached.first at y.reached;
-          room = reach_room_kept s c' targets _ _ _ _ _ _ _ _ x.room y.untouched;
-          untouched = untouched_then y.more x.untouched y.untouched;
-        }
+-- where the letters of all states that are met are read, the arrays say what is reached
+pub reaching_all : (s : System) (from k : ℕ) (m m' : Met) (numbers queue parents letters : List ℕ) → Reaching s from k 0 m m' → k ≤ m'.count → m'.count ≤ k → from < s.states
+    → numbers ≡ m'.numbers.now → queue ≡ m'.queue.now → parents ≡ m'.parents.now → letters ≡ m'.by.now → ReachSays s from m'.count numbers queue parents letters
+reaching_all s from k m m' numbers queue parents letters x low high l a b c d =
+    rw (a, b, c, d) (record { reached = rw (le_antisymm low high) at x.reached; exact = reached_exact _ _ _ _ _ _ _ _ _ x.reached l high })
 
 -- ---- a path written from its end
 drop_set : (xs : List ℕ) (j v : ℕ) → 0 < j → j ≤ length xs → drop (j - 1) (set xs (j - 1) v) ≡ v ∷ drop j xs

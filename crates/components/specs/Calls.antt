@@ -16,8 +16,7 @@ use Rattle.rules.specs.Basics.{pick, tabulate}
 use Rattle.rules.specs.Judges.{parity_system}
 use Rattle.rules.specs.Says.{over}
 use Rattle.rules.specs.Systems.{System, Path, reaches, component_of, ComponentsAre}
-use Rattle.components.specs.Places.{at}
-use Rattle.components.specs.Searching.{done_number}
+use Rattle.components.specs.Places.{done_number, at}
 use Rattle.components.specs.Reaches.{Queued, Untouched, ReachSays}
 
 abbrev pub cells_fit : ℕ → ℕ → ℕ → Bool

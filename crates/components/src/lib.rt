@@ -5,63 +5,63 @@
 // does not fit is answered as such.
 #![tactic(auto)]
 
-mod cells;
 mod paths;
 mod reach;
+mod system;
 
-ghost use Rattle.std.specs.Prelude.{◌≡◌, ◌≤◌, length};
-ghost use Rattle.components.specs.Places.{FilledWith};
+ghost use Rattle.std.specs.Prelude.{◌≡◌, ◌≤◌, length, is_some, unwrap_or, IfSome};
+ghost use Rattle.components.specs.Views.{IsSystem};
 ghost use Rattle.components.specs.Calls.{cells_fit, components_fit, reach_fits, ComponentsFound, ComponentsReached, ReachFound, PathFound};
 
-// The sizes are small enough, and there is a target for each cell.
-fn cells_fit(states: usize, letters: usize, cells: usize) -> bool
-    ensures { result ≡ cells_fit states letters cells }
-{
-    if (paths::DONE as usize <= states) | (paths::DONE as usize <= letters) {
-        return false;
-    }
-    states * letters <= cells
-}
+use system::System;
 
-// The same, and the letters are bytes, the search begins at a state, and four arrays have an entry for each state.
-fn reach_fits(
+// The system, if a search for components can begin. It needs five entries of `work` for each state, which a quotient tests since a product
+// could wrap.
+fn searchable<'a>(
     states: usize,
     letters: usize,
-    from: usize,
-    cells: usize,
-    a: usize,
-    b: usize,
-    c: usize,
-    d: usize,
-) -> bool
-    ensures { result ≡ reach_fits states letters from cells a b c d }
+    targets: &'a [u16],
+    work: usize,
+    out: usize,
+) -> Option<System<'a>>
+    ensures fits { is_some result ≡ components_fit states letters (length targets.now) work out }
+    ensures same { IfSome result (IsSystem states letters targets.now) }
 {
-    let arrays = (states <= a) & ((states <= b) & ((states <= c) & (states <= d)));
-    cells_fit(states, letters, cells) & ((letters <= 256) & ((from < states) & arrays))
-}
-
-// Writes a value into the first n entries.
-fn fill(n: usize, value: u16, array: &mut [u16])
-    requires { n ≤ length array.old }
-    ensures { FilledWith n value array.old array.new }
-{
-    let mut q = 0;
-    // the entries below q are written
-    while q < n {
-        array[q] = value;
-        q += 1;
+    let system = System::new(states, letters, targets)?;
+    if (states <= work / 5) & (states <= out) {
+        Some(system)
+    } else {
+        None
     }
 }
 
-// A search for components can begin. It needs five entries of `work` for each state, which a quotient tests since a product could wrap.
-fn components_fit(states: usize, letters: usize, cells: usize, work: usize, out: usize) -> bool
-    ensures { result ≡ components_fit states letters cells work out }
+// The system, if a search from a state can begin: the letters are bytes, it begins at a state, and four arrays have an entry for each state. It
+// takes eight parameters, since the test that is promised (`reach_fits`) is of the lengths of four arrays, and a struct for these would be made
+// and taken apart once.
+fn reachable<'a>(
+    states: usize,
+    letters: usize,
+    targets: &'a [u16],
+    from: usize,
+    numbers: usize,
+    queue: usize,
+    parents: usize,
+    by: usize,
+) -> Option<System<'a>>
+    ensures fits { is_some result ≡ reach_fits states letters from (length targets.now) numbers queue parents by }
+    ensures same { IfSome result (IsSystem states letters targets.now) }
 {
-    cells_fit(states, letters, cells) & ((states <= work / 5) & (states <= out))
+    let system = System::new(states, letters, targets)?;
+    let arrays = (states <= numbers) & ((states <= queue) & ((states <= parents) & (states <= by)));
+    if (letters <= 256) & ((from < states) & arrays) {
+        Some(system)
+    } else {
+        None
+    }
 }
 
 // The smallest state of each state's component, in the first entries of `out`; false where the sizes or an array do not fit. What `work`
-// holds afterwards is unspecified.
+// holds afterwards is unspecified. The answer is a `bool`: there is nothing beside it, as what is found lies in the arrays that are lent.
 pub fn find_components(
     states: usize,
     letters: usize,
@@ -71,20 +71,15 @@ pub fn find_components(
 ) -> bool
     ensures { ComponentsFound states letters targets.now work.old out.old out.new result }
 {
-    if !components_fit(states, letters, targets.len(), work.len(), out.len()) {
+    let Some(system) = searchable(states, letters, targets, work.len(), out.len()) else {
         return false;
-    }
-    fill(5 * states, 0, work);
-    let mut q = 0;
-    // no state is open, and the states below q have their component
-    while q < states {
-        paths::search(states, letters, targets, q, work, out);
-        q += 1;
-    }
+    };
+    paths::search(system, 0, states, work, out);
     true
 }
 
-// The same for what one state reaches: a state that it does not reach gets the number of the states, which is no state.
+// The same for what one state reaches: a state that it does not reach gets the number of the states, which is no state. The promise fixes that
+// number, since the array that is lent holds numbers of 16 bits, which leave no room for an `Option`.
 pub fn find_components_from(
     states: usize,
     letters: usize,
@@ -95,18 +90,20 @@ pub fn find_components_from(
 ) -> bool
     ensures { ComponentsReached states letters from targets.now work.old out.old out.new result }
 {
-    let fits = components_fit(states, letters, targets.len(), work.len(), out.len());
-    if !(fits & (from < states)) {
+    let Some(system) = searchable(states, letters, targets, work.len(), out.len()) else {
+        return false;
+    };
+    if states <= from {
         return false;
     }
-    fill(5 * states, 0, work);
-    fill(states, states as u16, out);
-    paths::search(states, letters, targets, from, work, out);
+    out[..states].fill(states as u16);
+    paths::search(system, from, from + 1, work, out);
     true
 }
 
 // All that a state reaches: how many states are met, and in the arrays for each state its place plus 1, or 0 where it is not reached, and
-// for each place the state, the place that it was met from and the letter, entries past these untouched. 0 where the sizes or an array do not fit.
+// for each place the state, the place that it was met from and the letter, entries past these untouched. `None` where the sizes or an array do
+// not fit. The 0 is a number of its own, and no `Option`, since the arrays go out to C as they are.
 pub fn find_reached(
     states: usize,
     letters: usize,
@@ -116,35 +113,21 @@ pub fn find_reached(
     queue: &mut [u16],
     parents: &mut [u16],
     by: &mut [u8],
-) -> usize
-    ensures { ReachFound states letters from targets.now numbers.old numbers.new queue.old queue.new parents.old parents.new by.old by.new result }
+) -> Option<usize>
+    ensures fits { is_some result ≡ reach_fits states letters from (length targets.now) (length numbers.old) (length queue.old) (length parents.old) (length by.old) }
+    ensures found { ReachFound states letters from targets.now numbers.old numbers.new queue.old queue.new parents.old parents.new by.old by.new (unwrap_or result 0) }
 {
-    let fits = reach_fits(
+    let system = reachable(
         states,
         letters,
+        targets,
         from,
-        targets.len(),
         numbers.len(),
         queue.len(),
         parents.len(),
         by.len(),
-    );
-    if !fits {
-        return 0;
-    }
-    fill(states, 0, numbers);
-    numbers[from] = 1;
-    queue[0] = from as u16;
-    let mut met = 1;
-    let mut k = 0;
-    // all letters of the states at the places below k are read, and `met` states are met
-    while k < met {
-        met = reach::read_state(
-            states, letters, targets, k, met, numbers, queue, parents, by,
-        );
-        k += 1;
-    }
-    met
+    )?;
+    Some(reach::search(system, from, numbers, queue, parents, by))
 }
 
 // The letters of a path to the state at a place, at the end of `out`, and where they begin.
@@ -153,11 +136,11 @@ pub fn path_to(place: usize, parents: &[u16], by: &[u8], out: &mut [u8]) -> usiz
 {
     let mut begin = out.len();
     let mut i = place;
-    // the letters from begin on lead from the state at place i to that at the place asked for
+    // the letters from begin on lead from the state at place i to that at the place asked for; a `while`, as i goes where the parents lead
     while (i != 0) & ((begin != 0) & ((i < parents.len()) & (i < by.len()))) {
         begin -= 1;
         out[begin] = by[i];
-        i = parents[i] as usize;
+        i = usize::from(parents[i]);
     }
     begin
 }

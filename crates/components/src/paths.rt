@@ -1,30 +1,45 @@
 // A path-based search for components. The open states are on a stack that is divided into parts; the states of a part share a component,
 // and each part leads to the next. A letter that leads back to an earlier part joins all parts from there on; a last part whose letters are
 // all read is a component. The time is linear in the cells: each letter is read once, each state opened and named once, each part joined or
-// closed once. One array is lent to work in, with 5 n entries for n states: the states' numbers from 0 on, the stack from n, where each part
-// starts from 2 n, the states that wait from 3 n, and the states' next letters from 4 n.
-ghost use Rattle.std.specs.Prelude.{◌≡◌, List, ℕ, ◌+◌, ◌*◌, ◌-◌, ◌<◌, ◌≤◌, length};
-ghost use Rattle.rules.specs.Judges.{parity_system};
-ghost use Rattle.components.specs.Places.{at, Rising};
-ghost use Rattle.components.specs.Searching.{done_number, numbers_in, stack_in, starts_in, waiting_in, SearchedIn, Joined, Scanned, Entered, Smallest, PartClosed, SearchRoom, TurnSays, SearchSays};
+// closed once. One array is lent to work in, with 5 n entries for n states, and split into five parts of n: the states' numbers and next
+// letters, the stack, where each part starts, and the states that wait. The stacks have no array of their own, as there is no heap: all memory
+// is the caller's.
+ghost use Rattle.std.specs.Prelude.{◌≡◌, ℕ, ◌+◌, ◌*◌, ◌-◌, ◌<◌, ◌≤◌, length, slice_index, EachIndex};
+ghost use Rattle.std.specs.List.{Contains};
+ghost use Rattle.components.specs.Places.{done_number, at, Rising};
+ghost use Rattle.components.specs.Views.{system_of};
+ghost use Rattle.components.specs.Searching.{Joined, Scanned, RootsSearched};
+ghost use Rattle.components.specs.Turning.{Room, SearchedIn, Entered, PartNamed, TurnSays, SearchSays};
 
-use crate::cells::target_at;
+use crate::system::System;
 
-// The number of a state whose component is known.
-pub(crate) const DONE: u16 = 65535;
+// The number of a state whose component is known; 0 is that of a state not yet met. Two numbers stand for this, as the array that is lent holds
+// numbers of 16 bits.
+const DONE: u16 = 65535;
 
-// How many states are open, how many parts they form, and how many of them wait.
-#[derive(Clone, Copy)]
-pub(crate) struct Heights {
-    open: usize,
-    parts: usize,
-    waiting: usize,
+// What is known of each state: its number, the letter that is read next, and its component.
+#[derive(Drop)]
+struct States<'a> {
+    numbers: &'a mut [u16],
+    nexts: &'a mut [u16],
+    components: &'a mut [u16],
 }
 
-// The letter at which reading stops, and the parts that are left.
+// The open states, where their parts start, and which of them wait, with the heights of these three stacks.
+#[derive(Drop)]
+struct Open<'a> {
+    stack: &'a mut [u16],
+    starts: &'a mut [u16],
+    waiting: &'a mut [u16],
+    count: usize,
+    parts: usize,
+    left: usize,
+}
+
+// The first letter that leads to a state not yet met, if there is one, and the parts that are left.
 #[derive(Clone, Copy)]
 struct Reading {
-    letter: usize,
+    fresh: Option<usize>,
     parts: usize,
 }
 
@@ -34,187 +49,165 @@ fn joined(starts: &[u16], parts: usize, number: u16) -> usize
     ensures { Joined (at starts.now) parts number result }
 {
     let mut kept = parts;
-    // the parts from kept on start at the number or after it
+    // the parts from kept on start at the number or after it; a `while` that counts down: it stops mostly at once, and where it stops is what is
+    // asked. `rposition` is no plainer: its `Option` would never be `None` here, and its number is that less 1
     while number <= starts[kept - 1] {
         kept -= 1;
     }
     kept
 }
 
-// Reads the letters of q from `from` on, up to the first that leads to a state not yet met.
-fn scan(
-    n: usize,
-    m: usize,
-    targets: &[u16],
-    q: usize,
-    from: usize,
-    work: &[u16],
-    parts: usize,
-) -> Reading
-    requires { (q < n) × (n * m ≤ length targets.now) × (5 * n ≤ length work.now) × (0 < parts) × (parts ≤ n) × (at (starts_in n work.now) 0 ≡ 0) × Rising parts (at (starts_in n work.now)) }
-    ensures { Scanned (parity_system n m targets.now) (at (numbers_in n work.now)) (at (starts_in n work.now)) q from parts result.letter result.parts }
+// The smallest of some states.
+fn smallest(states: &[u16]) -> u16
+    requires { 0 < length states.now }
+    ensures some { Contains states.now result }
+    ensures least { EachIndex states.now (λ k. result ≤ slice_index states.now k) }
 {
-    let starts = &work[2 * n..3 * n];
-    let first = q * m;
-    let mut kept = parts;
-    let mut a = from;
-    // the letters from `from` up to a are read: none leads to a part before the last of those kept
-    while a < m {
-        let target = target_at(targets, first + a);
-        if target < n {
-            let number = work[target];
-            if number == 0 {
-                return Reading {
-                    letter: a,
-                    parts: kept,
-                };
+    states.iter().copied().min().unwrap()
+}
+
+// That a search is under way (`SearchedIn`) is said by three methods: it is a fact about the system and both structs, of which no one can hold the
+// others and lend two of its fields at once.
+impl<'a> Open<'a> {
+    // Reads on from q, up to the first letter that leads to a state not yet met.
+    fn scan(&self, system: System, states: &States, q: usize) -> Reading
+        requires { Room (system_of system) self.now states.now × (q < system.states) × (0 < self.now.parts) × (self.now.parts ≤ system.states) × (at self.now.starts.now 0 ≡ 0) × Rising self.now.parts (at self.now.starts.now) }
+        ensures { Scanned (system_of system.entry) (at states.now.numbers.now) (at self.now.starts.now) q (at states.now.nexts.now q) self.now.parts result.fresh result.parts }
+    {
+        let mut kept = self.parts;
+        // the letters up to a are read: none leads to a part before the last of those kept
+        for a in usize::from(states.nexts[q])..system.letters {
+            let target = system.go(q, a);
+            if target < system.states {
+                let number = states.numbers[target];
+                if number == 0 {
+                    return Reading {
+                        fresh: Some(a),
+                        parts: kept,
+                    };
+                }
+                kept = joined(self.starts, kept, number);
             }
-            kept = joined(starts, kept, number);
         }
-        a += 1;
-    }
-    Reading {
-        letter: a,
-        parts: kept,
-    }
-}
-
-// Opens a state.
-fn enter(n: usize, q: usize, count: usize, parts: usize, left: usize, work: &mut [u16])
-    requires { (n < done_number) × (q < n) × (count < n) × (parts < n) × (left < n) × (5 * n ≤ length work.old) }
-    ensures { Entered n q count parts left work.old work.new }
-{
-    work[q] = (count + 1) as u16;
-    work[n + count] = q as u16;
-    work[2 * n + parts] = count as u16;
-    work[3 * n + left] = q as u16;
-}
-
-// The smallest of the states at some places.
-fn smallest(stack: &[u16], from: usize, to: usize) -> u16
-    requires { (from < to) × (to ≤ length stack.now) }
-    ensures { Smallest (at stack.now) from to result }
-{
-    let mut best = stack[from];
-    let mut i = from + 1;
-    // best is the smallest of the states at the places from `from` up to i
-    while i < to {
-        let q = stack[i];
-        if q < best {
-            best = q;
-        }
-        i += 1;
-    }
-    best
-}
-
-// Gives the states at some places their component: the smallest of them names it.
-fn name_component(n: usize, from: usize, to: usize, work: &mut [u16], outs: &mut [u16])
-    requires { (from < to) × (to ≤ n) × (5 * n ≤ length work.old) × (n ≤ length outs.old) × ((i : ℕ) → i < to → at (stack_in n work.old) i < n) }
-    ensures { PartClosed n from to work.old work.new outs.old outs.new }
-{
-    let label = smallest(&work[n..2 * n], from, to);
-    let mut i = from;
-    // the states at the places from `from` up to i have their component
-    while i < to {
-        let q = work[n + i] as usize;
-        work[q] = DONE;
-        outs[q] = label;
-        i += 1;
-    }
-}
-
-// Reads on from q, the last state that waits, which is in the last part: up to a state that is not yet met, which is opened, or to the end.
-// The components found, whatever they are, stay as they are.
-fn extend(
-    n: usize,
-    m: usize,
-    targets: &[u16],
-    q: usize,
-    count: usize,
-    parts: usize,
-    left: usize,
-    work: &mut [u16],
-) -> Heights
-    requires { SearchRoom (parity_system n m targets.now) targets.now work.old × ((outs : List ℕ) × SearchedIn (parity_system n m targets.now) count parts left work.old outs) × (0 < left) × (0 < parts) × (at (waiting_in n work.old) (left - 1) ≡ q) × (at (starts_in n work.old) (parts - 1) < at (numbers_in n work.old) q) }
-    ensures { (outs : List ℕ) → SearchedIn (parity_system n m targets.now) count parts left work.old outs → TurnSays (parity_system n m targets.now) count parts left result.open result.parts result.waiting work.old work.new outs outs }
-{
-    let next = 4 * n + q;
-    let found = scan(n, m, targets, q, work[next] as usize, work, parts);
-    let letter = found.letter;
-    let kept = found.parts;
-    if m <= letter {
-        work[next] = m as u16;
-        return Heights {
-            open: count,
+        Reading {
+            fresh: None,
             parts: kept,
-            waiting: left - 1,
-        };
-    }
-    let target = target_at(targets, q * m + letter);
-    enter(n, target, count, kept, left, work);
-    work[next] = (letter + 1) as u16;
-    Heights {
-        open: count + 1,
-        parts: kept + 1,
-        waiting: left + 1,
-    }
-}
-
-// One turn of the search: reads on from the last state that waits, if it is in the last part; if it is not, that part is a component.
-fn turn(
-    n: usize,
-    m: usize,
-    targets: &[u16],
-    count: usize,
-    parts: usize,
-    left: usize,
-    work: &mut [u16],
-    outs: &mut [u16],
-) -> Heights
-    requires { SearchRoom (parity_system n m targets.now) targets.now work.old × (n ≤ length outs.old) × SearchedIn (parity_system n m targets.now) count parts left work.old outs.old × (0 < count) }
-    ensures { TurnSays (parity_system n m targets.now) count parts left result.open result.parts result.waiting work.old work.new outs.old outs.new }
-{
-    let start = work[2 * n + (parts - 1)];
-    if 0 < left {
-        let q = work[3 * n + (left - 1)] as usize;
-        if start < work[q] {
-            return extend(n, m, targets, q, count, parts, left, work);
         }
     }
-    let from = start as usize;
-    name_component(n, from, count, work, outs);
-    Heights {
-        open: from,
-        parts: parts - 1,
-        waiting: left,
+
+    // Opens a state, as a part of its own.
+    fn enter(&mut self, q: usize, states: &mut States)
+        requires { (q < done_number) × (self.old.count < done_number) × (q < length states.old.numbers.now) × (self.old.count < length self.old.stack.now) × (self.old.parts < length self.old.starts.now) × (self.old.left < length self.old.waiting.now) }
+        ensures { Entered q self.old self.new states.old states.new }
+    {
+        states.numbers[q] = (self.count + 1) as u16;
+        self.stack[self.count] = q as u16;
+        self.starts[self.parts] = self.count as u16;
+        self.waiting[self.left] = q as u16;
+        self.count += 1;
+        self.parts += 1;
+        self.left += 1;
+    }
+
+    // Reads on from q, the last state that waits, which is in the last part: up to a state that is not yet met, which is opened, or to the end.
+    fn extend(&mut self, system: System, q: usize, states: &mut States)
+        requires { SearchedIn (system_of system) self.old states.old × (0 < self.old.left) × (0 < self.old.parts) × (at self.old.waiting.now (self.old.left - 1) ≡ q) × (at self.old.starts.now (self.old.parts - 1) < at states.old.numbers.now q) }
+        ensures { TurnSays (system_of system.entry) self.old self.new states.old states.new }
+    {
+        let found = self.scan(system, states, q);
+        self.parts = found.parts;
+        let Some(letter) = found.fresh else {
+            states.nexts[q] = system.letters as u16;
+            self.left -= 1;
+            return;
+        };
+        self.enter(system.go(q, letter), states);
+        states.nexts[q] = (letter + 1) as u16;
+    }
+
+    // The states of the last part, which starts at `from`, have their component: the smallest of them names it.
+    fn name_component(&self, from: usize, states: &mut States)
+        requires { (from < self.now.count) × (self.now.count ≤ length self.now.stack.now) × ((i : ℕ) → i < self.now.count → (at self.now.stack.now i < length states.old.numbers.now) × (at self.now.stack.now i < length states.old.components.now)) }
+        ensures { PartNamed from self.now states.old states.new }
+    {
+        let members = &self.stack[from..self.count];
+        let label = smallest(members);
+        // the states passed have their component
+        for q in members {
+            let q = usize::from(*q);
+            states.numbers[q] = DONE;
+            states.components[q] = label;
+        }
+    }
+
+    // One turn of the search: reads on from the last state that waits, if it is in the last part; if it is not, that part is a component.
+    fn turn(&mut self, system: System, states: &mut States)
+        requires { SearchedIn (system_of system) self.old states.old × (0 < self.old.count) }
+        ensures { TurnSays (system_of system.entry) self.old self.new states.old states.new }
+    {
+        let start = self.starts[self.parts - 1];
+        if 0 < self.left {
+            let q = usize::from(self.waiting[self.left - 1]);
+            if start < states.numbers[q] {
+                self.extend(system, q, states);
+                return;
+            }
+        }
+        self.name_component(usize::from(start), states);
+        self.count = usize::from(start);
+        self.parts -= 1;
+    }
+
+    // Searches from a state, unless it is met already: then all that it reaches has its component.
+    fn search(&mut self, system: System, root: usize, states: &mut States)
+        requires { SearchedIn (system_of system) self.old states.old × (self.old.count ≡ 0) × (root < system.states) }
+        ensures { SearchSays (system_of system.entry) root self.old self.new states.old states.new }
+    {
+        if states.numbers[root] != 0 {
+            return;
+        }
+        self.enter(root, states);
+        // `SearchedIn` holds: the open states are in their parts, by the letters read, and the other states that are met have their component; a
+        // `while`, as it ends when no state is open any more
+        while 0 < self.count {
+            self.turn(system, states);
+        }
     }
 }
 
-// Searches from a state, unless it is met already: then all that it reaches has its component.
+// Searches from each state from `from` up to `to`: all that they reach gets its component, and nothing else is written.
 pub(crate) fn search(
-    n: usize,
-    m: usize,
-    targets: &[u16],
-    root: usize,
+    system: System,
+    from: usize,
+    to: usize,
     work: &mut [u16],
-    outs: &mut [u16],
+    components: &mut [u16],
 )
-    requires { SearchRoom (parity_system n m targets.now) targets.now work.old × (n ≤ length outs.old) × SearchedIn (parity_system n m targets.now) 0 0 0 work.old outs.old × (root < n) }
-    ensures { SearchSays (parity_system n m targets.now) root work.old work.new outs.old outs.new }
+    requires { (5 * system.states ≤ length work.old) × (system.states ≤ length components.old) × (from ≤ to) × (to ≤ system.states) }
+    ensures { RootsSearched (system_of system.entry) from to components.old components.new }
 {
-    if work[root] != 0 {
-        return;
-    }
-    enter(n, root, 0, 0, 0, work);
-    let mut count = 1;
-    let mut parts = 1;
-    let mut left = 1;
-    // `SearchedIn` holds: the open states are in their parts, by the letters read, and the other states that are met have their component
-    while 0 < count {
-        let heights = turn(n, m, targets, count, parts, left, work, outs);
-        count = heights.open;
-        parts = heights.parts;
-        left = heights.waiting;
+    let n = system.states;
+    let (numbers, rest) = work.split_at_mut(n);
+    let (nexts, rest) = rest.split_at_mut(n);
+    let (stack, rest) = rest.split_at_mut(n);
+    let (starts, waiting) = rest.split_at_mut(n);
+    numbers.fill(0);
+    nexts.fill(0);
+    let mut states = States {
+        numbers,
+        nexts,
+        components,
+    };
+    let mut open = Open {
+        stack,
+        starts,
+        waiting,
+        count: 0,
+        parts: 0,
+        left: 0,
+    };
+    // no state is open, and what the states before this one reach has its component
+    for root in from..to {
+        open.search(system, root, &mut states);
     }
 }

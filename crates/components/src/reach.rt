@@ -1,66 +1,83 @@
 // A breadth-first search from one state: states are queued as they are met, each with the place of the state that led to it and the letter.
-ghost use Rattle.std.specs.Prelude.{◌≡◌, ◌+◌, ◌<◌};
-ghost use Rattle.rules.specs.Judges.{parity_system};
+ghost use Rattle.std.specs.Prelude.{◌≡◌, ◌+◌, ◌<◌, ◌≤◌, length};
 ghost use Rattle.components.specs.Places.{at};
-ghost use Rattle.components.specs.Reaches.{Queued, ReachRoom, ReadSays};
+ghost use Rattle.components.specs.Views.{system_of};
+ghost use Rattle.components.specs.Reaches.{Untouched, ReachSays};
+ghost use Rattle.components.specs.Meeting.{QueuedIn, ReadSays};
 
-use crate::cells::target_at;
+use crate::system::System;
 
-// Reads letter a of the state at place k, and gives how many states are met then.
-fn read_letter(
-    n: usize,
-    m: usize,
-    targets: &[u16],
-    target: usize,
-    k: usize,
-    a: usize,
+// The states that are met, and how many: each state's place plus 1, and for each place the state, the place that it was met from and the letter.
+// A state that is not met has 0 for its place plus 1, and each of the four is an array, since these arrays go out to C as they are.
+#[derive(Drop)]
+struct Met<'a> {
+    numbers: &'a mut [u16],
+    queue: &'a mut [u16],
+    parents: &'a mut [u16],
+    by: &'a mut [u8],
     count: usize,
-    numbers: &mut [u16],
-    queue: &mut [u16],
-    parents: &mut [u16],
-    by: &mut [u8],
-) -> usize
-    requires { ReachRoom (parity_system n m targets.now) targets.now numbers.old queue.old parents.old by.old × Queued (parity_system n m targets.now) (at queue.old 0) count k a (at numbers.old) (at queue.old) (at parents.old) (at by.old) × (k < count) × (a < m) × (target ≡ (parity_system n m targets.now).go (at queue.old k) a) }
-    ensures { ReadSays (parity_system n m targets.now) count result k (a + 1) numbers.old numbers.new queue.old queue.new parents.old parents.new by.old by.new × (at queue.new k ≡ at queue.old k) }
-{
-    if n <= target {
-        return count;
-    }
-    if numbers[target] != 0 {
-        return count;
-    }
-    numbers[target] = (count + 1) as u16;
-    queue[count] = target as u16;
-    parents[count] = k as u16;
-    by[count] = a as u8;
-    count + 1
 }
 
-// Reads all letters of the state at place k, and gives how many states are met then.
-pub(crate) fn read_state(
-    n: usize,
-    m: usize,
-    targets: &[u16],
-    k: usize,
-    count: usize,
+impl<'a> Met<'a> {
+    // Reads letter a of the state at place k: meets its target, unless that is no state or is met already.
+    fn read_letter(&mut self, system: System, target: usize, k: usize, a: usize)
+        requires { QueuedIn (system_of system) self.old k a × (k < self.old.count) × (a < system.letters) × (target ≡ (system_of system).go (at self.old.queue.now k) a) }
+        ensures { ReadSays (system_of system.entry) self.old self.new k (a + 1) × (at self.new.queue.now k ≡ at self.old.queue.now k) }
+    {
+        if system.states <= target {
+            return;
+        }
+        if self.numbers[target] != 0 {
+            return;
+        }
+        self.numbers[target] = (self.count + 1) as u16;
+        self.queue[self.count] = target as u16;
+        self.parents[self.count] = k as u16;
+        self.by[self.count] = a as u8;
+        self.count += 1;
+    }
+
+    // Reads all letters of the state at place k.
+    fn read_state(&mut self, system: System, k: usize)
+        requires { QueuedIn (system_of system) self.old k 0 × (k < self.old.count) }
+        ensures { ReadSays (system_of system.entry) self.old self.new (k + 1) 0 }
+    {
+        let q = usize::from(self.queue[k]);
+        // the letters below a of the state at place k are read
+        for a in 0..system.letters {
+            self.read_letter(system, system.go(q, a), k, a);
+        }
+    }
+}
+
+// Meets all that a state reaches, and gives how many states these are.
+pub(crate) fn search(
+    system: System,
+    from: usize,
     numbers: &mut [u16],
     queue: &mut [u16],
     parents: &mut [u16],
     by: &mut [u8],
 ) -> usize
-    requires { ReachRoom (parity_system n m targets.now) targets.now numbers.old queue.old parents.old by.old × Queued (parity_system n m targets.now) (at queue.old 0) count k 0 (at numbers.old) (at queue.old) (at parents.old) (at by.old) × (k < count) }
-    ensures { ReadSays (parity_system n m targets.now) count result (k + 1) 0 numbers.old numbers.new queue.old queue.new parents.old parents.new by.old by.new }
+    requires { (system.letters ≤ 256) × (from < system.states) × (system.states ≤ length numbers.old) × (system.states ≤ length queue.old) × (system.states ≤ length parents.old) × (system.states ≤ length by.old) }
+    ensures says { ReachSays (system_of system.entry) from result numbers.new queue.new parents.new by.new }
+    ensures untouched { Untouched system.entry.states result numbers.old numbers.new queue.old queue.new parents.old parents.new by.old by.new }
 {
-    let first = queue[k] as usize * m;
-    let mut met = count;
-    let mut a = 0;
-    // the letters below a of the state at place k are read
-    while a < m {
-        let target = target_at(targets, first + a);
-        met = read_letter(
-            n, m, targets, target, k, a, met, numbers, queue, parents, by,
-        );
-        a += 1;
+    numbers[..system.states].fill(0);
+    numbers[from] = 1;
+    queue[0] = from as u16;
+    let mut met = Met {
+        numbers,
+        queue,
+        parents,
+        by,
+        count: 1,
+    };
+    let mut k = 0;
+    // all letters of the states at the places below k are read; a `while`, as the states that are met become more
+    while k < met.count {
+        met.read_state(system, k);
+        k += 1;
     }
-    met
+    met.count
 }

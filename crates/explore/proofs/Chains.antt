@@ -1,6 +1,6 @@
 -- The index of keys: what its chains hold, and how a key is found along one.
 --     slot_below                    the slot of a key is a slot
---     indexed_none, indexed_more    the index of no key; one key more, after keys that stay as they are
+--     indexed_more                  one key more, after keys that stay as they are
 --     Sought slots n key keys at    the search for a key is at `at`: every place of the key among the first n is below it
 --     next_below                    a link falls
 --     sought_first, sought_next     the search begins at a slot's head, and goes on along the links
@@ -48,9 +48,6 @@ module _ (slots : ℕ) where
   nearest_same : (keys keys' : List ℕ) (s n : ℕ) → ((i : ℕ) → i < n → get_or keys i 0 ≡ get_or keys' i 0) → nearest slots keys s n ≡ nearest slots keys' s n
   nearest_same keys keys' s zero h = refl
   nearest_same keys keys' s (suc n) h = rw (h n (omega arith), nearest_same keys keys' s n (λ i l. h i (omega arith)))
-
-pub indexed_none : (slots : ℕ) (keys heads links : List ℕ) → ((s : ℕ) → get_or heads s 0 ≡ 0) → Indexed slots 0 keys heads links
-indexed_none slots keys heads links z = record { head = λ s l. z s; link = λ i l. absurd (omega arith) }
 
 pub indexed_more : (slots n key : ℕ) (keys keys' heads links : List ℕ) → 0 < slots → slots ≤ length heads → n < length links → ((i : ℕ) → i < n → get_or keys' i 0 ≡ get_or keys i 0)
     → get_or keys' n 0 ≡ key → Indexed slots n keys heads links → Indexed slots (suc n) keys' (set heads (slot_of slots key) (suc n)) (set links n (get_or heads (slot_of slots key) 0))

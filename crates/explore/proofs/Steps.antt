@@ -2,20 +2,21 @@
 --     keyed_same                                                             sameness of keys is equality
 --     key_row_lem                                                            the row of a number is the key of that number
 --     step_here                                                              the step of a cell, by its code and the effect of its marks
+--     row_size, row_effect, row_step                                         a row's codes: how many, the effect of each, and its step
 --     row_fits, cell_fits                                                    the cells of a key that fits
---     code_fits, step_fits, key_there                                        a code and a step lead to keys that fit; the code of a transition gives a step that is there
---     cell_missing, read_there                                               a cell has been read whose transition is missing, or is there and its key is filed
+--     code_fits, step_fits                                                   a code and a step lead to keys that fit
+--     read_there                                                             a cell has been read whose transition is there and its key is filed
 --     step_count, step_most, step_rest, step_rows, step_front, step_known    how many rows there are then, at most one more, what stays past them,
 --                                                                            which they are, that those known before stay, and what is known
 use mathlib.Core.Path.{◌≡◌, refl, sym, ap, ◌∙◌}
 use mathlib.Core.Bool.{Bool, true, false}
 use mathlib.Core.List.{List, [], ◌∷◌, ◌++◌}
-use Prim.Native.Nat.{ℕ, suc, ◌+◌, ◌*◌, ◌%◌, ◌<◌, ◌≤◌}
+use Prim.Native.Nat.{ℕ, suc, ◌+◌, ◌-◌, ◌*◌, ◌%◌, ◌<◌, ◌≤◌}
 use native.Mathlib.Nat.{suc-mul, mul-le-mul_right, div-mul-le_self}
 use native.Mathlib.Omega.{arith}
 use lib.Dec.{eqb, ltb, leb}
-use lib.ListN.{length, get_or, set, take, length-set, length-append}
-use lib.Seq.{get_or-set_same, get_or-set_other, get_or-take, length-take-le, take-suc-set}
+use lib.ListN.{length, get_or, set, take, drop, length-set, length-append, length-drop}
+use lib.Seq.{get_or-set_same, get_or-set_other, get_or-take, get_or-drop, length-take-le, take-suc-set}
 use borrow.Author.Tests.{eqb-true, eq-eqb, ltb-true, ltb-false, leb-false, le-leb}
 use Rattle.rules.specs.Basics.{pick}
 use Rattle.rules.specs.Limits.{no_row}
@@ -27,9 +28,9 @@ use Rattle.explore.specs.declared.Task.{Task}
 use Rattle.rules.specs.Arrays.{Beyond}
 use Rattle.explore.specs.Index.{number_among}
 use Rattle.explore.specs.Cells.{span, key_of, source_in, memory_in, crossing_kind, inside_kind, target_in, marks_in, state_in, strays, step_in}
-use Rattle.explore.specs.Effects.{effect_by, keyed, key_step, key_plan}
+use Rattle.explore.specs.Effects.{IsEffect, EffectsOn, keyed, key_step, key_plan}
 use Rattle.explore.specs.Exploring.{states_in, Fits, Closed, StepRead, Known, lent}
-use Rattle.explore.specs.Filing.{Filed, rows_after, Files}
+use Rattle.explore.specs.Filing.{rows_after, Files}
 use Rattle.rules.proofs.Filling.{beyond_none, beyond_set}
 use Rattle.rules.proofs.Reading.{with_missing, with_there, target_there, step_found, cell_read}
 
@@ -47,9 +48,35 @@ row_fits m cells v fits =
 pub cell_fits : (m : ℕ) (cells : List ℕ) (v a : ℕ) → Fits m cells v → a < m → cell m (source_in v) a < length cells
 cell_fits m cells v a fits l = omega (arith, row_fits m cells v fits)
 
-pub step_here : (t : Task) (cells : List ℕ) (v v' a first e : ℕ) → v' ≡ v → first ≡ source_in v * t.letters → e ≡ effect_by t.rule (memory_in v) (marks_in (get_or cells (first + a) 0))
-    → step_in (get_or cells (first + a) 0) e ≡ key_step t cells v' a
-step_here t cells v v' a first e z f h = rw (z, h, f)
+pub step_here : (rule : ℕ → ℕ → ℕ) (t : Task) (cells : List ℕ) (v v' a first e : ℕ) → v' ≡ v → first ≡ source_in v * t.letters → e ≡ rule (memory_in v) (marks_in (get_or cells (first + a) 0))
+    → step_in (get_or cells (first + a) 0) e ≡ key_step rule t cells v' a
+step_here rule t cells v v' a first e z f h = rw (z, h, f)
+
+-- a row's codes, and their effects
+module _ (rule : ℕ → ℕ → ℕ) (t : Task) (cells : List ℕ) (v : ℕ) (fits : Fits t.letters cells v) where
+  abbrev first : ℕ
+  first = source_in v * t.letters
+
+  abbrev codes : List ℕ
+  codes = take (first + t.letters - first) (drop first cells)
+
+  few : first + t.letters - first ≡ t.letters
+  few = omega arith
+
+  pub row_size : length codes ≡ t.letters
+  row_size = rw few (length-take-le t.letters (drop first cells) (omega (arith, length-drop first cells, row_fits t.letters cells v fits)))
+
+  code_at : (a : ℕ) → a < t.letters → get_or codes a 0 ≡ get_or cells (cell t.letters (source_in v) a) 0
+  code_at a l = get_or-take (first + t.letters - first) (drop first cells) a 0 (omega arith) ∙ get_or-drop first cells a 0
+
+  module _ (a r : ℕ) (effects : List ℕ) (l : a < length codes) (x : EffectsOn rule (memory_in v) (length codes) r codes effects) where
+    pub row_effect : IsEffect rule (memory_in v) (marks_in (get_or codes a 0)) (get_or effects (a * r) 0)
+    row_effect = x.each a l
+
+    pub row_step : (v' : ℕ) → v' ≡ v → step_in (get_or codes a 0) (get_or effects (a * r) 0) ≡ key_step rule t cells v' a
+    row_step v' z =
+        let same = code_at a (rw row_size at l) in
+        rw same (step_here rule t cells v v' a first (get_or effects (a * r) 0) z refl (rw (← same) row_effect.is))
 
 module _ (m : ℕ) (cells : List ℕ) (w e : ℕ) (leads : strays (states_in m cells) w ≡ false) where
   -- a code that is there leads to one of the states
@@ -71,22 +98,22 @@ module _ (m : ℕ) (cells : List ℕ) (w e : ℕ) (leads : strays (states_in m c
       (λ f. clash t (rw f))
       (λ f. let s = state_fits (ltb-false w crossing_kind f) in by (ltb w inside_kind) (λ h. rw (f, h) (rw h at s)) (λ h. rw (f, h) (rw moved_source (rw h at s))))
 
-module _ (t : Task) (cells : List ℕ) (closed : Closed t cells) where
+module _ (rule : ℕ → ℕ → ℕ) (t : Task) (cells : List ℕ) (closed : Closed t cells) where
   abbrev g : Plan ℕ
-  g = key_plan t cells
+  g = key_plan rule t cells
 
   abbrev m : ℕ
   m = t.letters
 
   law : SameIsEqual g
-  law = keyed_same m t.start (key_step t cells)
+  law = keyed_same m t.start (key_step rule t cells)
 
   pub step_fits : (v a : ℕ) → Fits m cells v → a < m → (g.step v a).there ≡ true → Fits m cells (g.step v a).to
   step_fits v a fits l =
       let w = get_or cells (cell m (source_in v) a) 0 in
-      code_fits m cells w (effect_by t.rule (memory_in v) (marks_in w)) (closed.leads (cell m (source_in v) a) (cell_fits m cells v a fits l))
+      code_fits m cells w (rule (memory_in v) (marks_in w)) (closed.leads (cell m (source_in v) a) (cell_fits m cells v a fits l))
 
-  module _ (c n i a : ℕ) (keys ts ps : List ℕ) (li : i < n) (la : a < m) (k : Known t cells c n (cell m i a) (lent keys ts ps)) where
+  module _ (c n i a : ℕ) (keys ts ps : List ℕ) (li : i < n) (la : a < m) (k : Known rule t cells c n (cell m i a) (lent keys ts ps)) where
     abbrev v : ℕ
     v = get_or keys i 0
 
@@ -170,7 +197,7 @@ module _ (t : Task) (cells : List ℕ) (closed : Closed t cells) where
           (s.target_array, s.priority_array)
           (rw row_is at (cell_read g law no_row rs i a p ts ps k.read refl (omega (arith, rows_many)) la (pick x.there number no_row) x.prio (omega (arith, within, k.target_room)) (omega (arith, within, k.priority_room)) (rw row_is target_is) (rw row_is)))
 
-      pub step_known : r ≤ c → Known t cells c r (suc p) (lent keys' ts' ps')
+      pub step_known : r ≤ c → Known rule t cells c r (suc p) (lent keys' ts' ps')
       step_known q =
           record {
             filed = s.filed q;
@@ -181,34 +208,16 @@ module _ (t : Task) (cells : List ℕ) (closed : Closed t cells) where
           }
 
 -- ---- what a function that reads a cell has done
-module _ (w e c n p : ℕ) (keys ts ps : List ℕ) where
-  pub cell_missing : ltb w crossing_kind ≡ true → Filed c n keys → StepRead (step_in w e) c n p (lent keys ts ps) (lent keys (set ts p no_row) (set ps p 0)) n
-  unfolding step_in
-  cell_missing f k =
+module _ (x : Step ℕ) (c n p : ℕ) (keys ts ps : List ℕ) where
+  pub read_there : (key prio number r : ℕ) (keys' : List ℕ) → x.there ≡ true → key ≡ x.to → prio ≡ x.prio → Files c key n keys keys' number → r ≡ rows_after n number
+      → StepRead x c n p (lent keys ts ps) (lent keys' (set ts p number) (set ps p prio)) r
+  read_there key prio number r keys' t k q s z =
+      let same : number ≡ number_among x.to n keys = s.number ∙ ap (λ (y : ℕ). number_among y n keys) k in
       record {
-        count = rw f;
-        filed = λ h. k;
-        key_array = λ h. rw f;
-        target_array = rw f;
-        priority_array = rw f;
-        key_rest = beyond_none c keys;
-      }
-
-  pub key_there : ltb w crossing_kind ≡ false → (step_in w e).there ≡ true
-  unfolding step_in
-  key_there f = by (ltb w inside_kind) (λ h. rw (f, h)) (λ h. rw (f, h))
-
-  pub read_there : (key prio number r : ℕ) (keys' : List ℕ) → ltb w crossing_kind ≡ false → key ≡ (step_in w e).to → prio ≡ (step_in w e).prio
-      → Files c key n keys keys' number → r ≡ rows_after n number
-      → StepRead (step_in w e) c n p (lent keys ts ps) (lent keys' (set ts p number) (set ps p prio)) r
-  read_there key prio number r keys' f k q s z =
-      let t = key_there f in
-      let same : number ≡ number_among (step_in w e).to n keys = s.number ∙ ap (λ (y : ℕ). number_among y n keys) k in
-      record {
-        count = z ∙ ap (rows_after n) same ∙ sym (ap (λ (b : Bool). pick b (rows_after n (number_among (step_in w e).to n keys)) n) t);
+        count = z ∙ ap (rows_after n) same ∙ rw t;
         filed = λ h. rw z (s.filed (rw z at h));
-        key_array = λ h. s.key_array (rw z at h) ∙ ap (λ (y : ℕ). pick (eqb y n) (set keys n key) keys) same ∙ ap (λ (y : ℕ). pick (eqb (number_among (step_in w e).to n keys) n) (set keys n y) keys) k ∙ sym (ap (λ (b : Bool). pick b (pick (eqb (number_among (step_in w e).to n keys) n) (set keys n (step_in w e).to) keys) keys) t);
-        target_array = ap (set ts p) (same ∙ sym (ap (λ (b : Bool). pick b (number_among (step_in w e).to n keys) no_row) t));
+        key_array = λ h. s.key_array (rw z at h) ∙ ap (λ (y : ℕ). pick (eqb y n) (set keys n key) keys) same ∙ ap (λ (y : ℕ). pick (eqb (number_among x.to n keys) n) (set keys n y) keys) k ∙ rw t;
+        target_array = ap (set ts p) same ∙ rw t;
         priority_array = ap (set ps p) q;
         key_rest = s.key_rest;
       }

@@ -2,5 +2,7 @@
 pub mod Index
 pub mod Filing
 pub mod Cells
+pub mod Transitions
 pub mod Effects
 pub mod Exploring
+pub mod Lending

@@ -1,5 +1,6 @@
 // Keys, and the codes of cells: a missing transition is below `CROSSING`, a crossing is `CROSSING` and the key at which it enters, an inside
-// transition is `INSIDE`, 65,536 times the target state, and the marks.
+// transition is `INSIDE`, 65,536 times the target state, and the marks. They are numbers and no enum: a cell takes four bytes of a lent array, and
+// loops over cells have no branch, so that they become vector code.
 ghost use Rattle.std.specs.Prelude.{◌≡◌, ◌<◌};
 ghost use Rattle.explore.specs.Cells.{span, key_of, marks_in, state_in, strays};
 
@@ -12,10 +13,10 @@ pub const CROSSING: u32 = 268435456;
 pub const INSIDE: u32 = 536870912;
 
 // The marks in a code.
-pub(crate) fn marks_of(code: u32) -> u32
+pub(crate) fn marks_of(code: u32) -> u16
     ensures { result ≡ marks_in code }
 {
-    code % 65536
+    (code % 65536) as u16
 }
 
 // The key of a state with a memory.

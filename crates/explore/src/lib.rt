@@ -10,32 +10,39 @@ mod index;
 mod rows;
 
 ghost use Rattle.std.specs.Prelude.{◌≡◌};
+ghost use Rattle.rules.specs.Numbered.{number_of};
 ghost use Rattle.rules.specs.Says.{are_short};
-ghost use Rattle.explore.specs.Exploring.{ExploreSays, lent};
+ghost use Rattle.explore.specs.Exploring.{ExploreSays, refusal_for, lent};
 
+use crate::check::Checked;
+pub use crate::effects::{Pairs, Rule};
+use crate::rows::Rows;
 use rules::limit::MAX_ROWS;
+use rules::refusal::Refusal;
 
-// What marks do to a memory.
-#[derive(Clone, Copy)]
-pub enum Rule {
-    // Index appearance records: the prohibited pairs move to the front.
-    Pairs,
-}
-
-// What is explored: the rule, the letters, and the key of the first row.
+// What is explored: the letters, and the key of the first row.
 #[derive(Clone, Copy)]
 pub struct Task {
-    pub rule: Rule,
     pub letters: usize,
     pub start: u32,
 }
 
-// How many rows there are; or more than the capacity; or the codes lead outside the cells, a size is out of range or an array too short.
-#[derive(Clone, Copy)]
-pub enum Explored {
-    Rows(usize),
+// Why there is no answer: there are more rows than the capacity; or the codes lead outside the cells, a size is out of range or an array too short.
+#[derive(Clone, Copy, PartialEq, Eq)]
+pub enum Unexplored {
     Full,
     Unfit,
+}
+
+impl From<Unexplored> for Refusal {
+    ghost from_gives = { λ unexplored refusal. number_of refusal ≡ refusal_for unexplored };
+
+    fn from(unexplored: Unexplored) -> Refusal {
+        match unexplored {
+            Unexplored::Full => Refusal::Full,
+            Unexplored::Unfit => Refusal::Arrays,
+        }
+    }
 }
 
 // The capacity is out of range, or an array is too short: the first two need an entry for each row and letter, the others for each row.
@@ -52,35 +59,30 @@ pub fn are_short(
     if (capacity == 0) | (MAX_ROWS < capacity) {
         return true;
     }
-    let cells = capacity * letters as usize;
+    let cells = capacity * usize::from(letters);
     (targets < cells) | ((priorities < cells) | ((sources < capacity) | (records < capacity)))
 }
 
-// All rows of a task: their keys, targets and priorities, in the lent arrays.
-pub fn find_rows(
+// All rows of a task by a rule: their keys, targets and priorities, in the lent arrays, and how many there are.
+pub fn find_rows<R: Rule>(
     task: Task,
     cells: &[u32],
     capacity: usize,
     keys: &mut [u32],
     targets: &mut [u16],
     priorities: &mut [u8],
-) -> Explored
-    ensures { ExploreSays task cells.now capacity (lent keys.old targets.old priorities.old) (lent keys.new targets.new priorities.new) result }
+) -> Result<usize, Unexplored>
+    ensures { ExploreSays R.effect task cells.now capacity (lent keys.old targets.old priorities.old) (lent keys.new targets.new priorities.new) result }
 {
-    let unfit = check::is_unfit(
-        task,
-        cells,
+    let mut rows = Rows {
         capacity,
-        keys.len(),
-        targets.len(),
-        priorities.len(),
-    );
-    if unfit {
-        return Explored::Unfit;
+        keys,
+        targets,
+        priorities,
+    };
+    if check::is_unfit(task, cells, &rows) {
+        return Err(Unexplored::Unfit);
     }
-    let found = rows::explore(task, cells, capacity, keys, targets, priorities);
-    if capacity < found {
-        return Explored::Full;
-    }
-    Explored::Rows(found)
+    let checked = Checked { task, cells };
+    rows.explore::<R>(checked).ok_or(Unexplored::Full)
 }

@@ -1,15 +1,20 @@
 // The exploration: rows are read by number, letters rising within each; a key is filed as it is found, a cell written as it is read.
-ghost use Rattle.std.specs.Prelude.{◌≡◌, false, ◌+◌, ◌*◌, ◌<◌, ◌≤◌, ltb, length};
-ghost use Rattle.explore.specs.Cells.{span, crossing_kind, step_in};
+// It ends without an answer once more rows are reached than the capacity.
+ghost use Rattle.std.specs.Prelude.{◌+◌, ◌*◌, ◌<◌, ◌≤◌, length};
+ghost use Rattle.rules.specs.Limits.{max_rows};
+ghost use Rattle.explore.specs.Cells.{span, step_in};
+ghost use Rattle.explore.specs.Transitions.{IsStep};
 ghost use Rattle.explore.specs.Filing.{Filed};
-ghost use Rattle.explore.specs.Index.{Linked};
-ghost use Rattle.explore.specs.Exploring.{LinkRoom, StepRead, Closed, Known, RowSays, RowRoom, Stage, RowsSay, ExploresAll, lent};
+ghost use Rattle.explore.specs.Index.{max_slots, Linked};
+ghost use Rattle.explore.specs.Lending.{lent_in, SameLent};
+ghost use Rattle.explore.specs.Exploring.{LinkRoom, CellRead, Known, RowRead, RowRoom, Stage, RowsRead, AllRead};
 
-use crate::Task;
+use crate::Rule;
+use crate::check::Checked;
 use crate::codes::{CROSSING, INSIDE, SPAN, key_of};
 use crate::effects::write_effects;
-use crate::filing::{file_key, rows_after};
-use crate::index::index_keys;
+use crate::filing::file_key;
+use crate::index::Index;
 use rules::limit::{MAX_LETTERS, MAX_ROWS, NO_ROW};
 
 // Up to how many rows a small index serves, and its slots. While few rows are known, clearing the large one would take longer than reading them.
@@ -30,173 +35,127 @@ pub(crate) struct Progress {
     pub known: usize,
 }
 
-// The key to which the transition of a code leads, where it is there.
-fn next_key(code: u32, effect: u32) -> u32
-    requires { ltb code crossing_kind ≡ false }
-    ensures { result ≡ (step_in code effect).to }
-{
-    if code < INSIDE {
-        return key_of(code % CROSSING / SPAN, code % SPAN);
-    }
-    key_of(code / 65536 % 1024, effect % SPAN)
+// The rows of an exploration in the lent arrays, of which there may be so many. They are slices, one for each part of a row: the caller lends them.
+#[derive(Drop)]
+pub(crate) struct Rows<'a> {
+    pub capacity: usize,
+    pub keys: &'a mut [u32],
+    pub targets: &'a mut [u16],
+    pub priorities: &'a mut [u8],
 }
 
-// The priority of the transition of a code, where it is there.
-fn priority_of(code: u32, effect: u32) -> u8
-    requires { (ltb code crossing_kind ≡ false) × (effect < 256 * span) }
-    ensures { result ≡ (step_in code effect).prio }
-{
-    if code < INSIDE {
-        return 1;
-    }
-    (effect / SPAN) as u8
+// A transition: the key to which it leads, and its priority.
+#[derive(Clone, Copy)]
+pub(crate) struct Transition {
+    pub key: u32,
+    pub priority: u8,
 }
 
-// Reads a cell, number p of the parity table, whose code and effect are given, and gives how many rows are known then.
-fn read_cell(
-    code: u32,
-    effect: u32,
-    p: usize,
-    n: usize,
-    capacity: usize,
-    keys: &mut [u32],
-    heads: &mut [u16],
-    links: &mut [u16],
-    targets: &mut [u16],
-    priorities: &mut [u8],
-) -> usize
-    requires { Filed capacity n keys.old × Linked n keys.old heads.old links.old × (n < capacity → n < length links.old) × (effect < 256 * span) × (p < length targets.old) × (p < length priorities.old) }
-    ensures { StepRead (step_in code effect) capacity n p (lent keys.old targets.old priorities.old) (lent keys.new targets.new priorities.new) result × (result ≤ capacity → Linked result keys.new heads.new links.new) }
+// The transition of a code, by the effect of its marks; none where it is missing.
+fn transition_of(code: u32, effect: u32) -> Option<Transition>
+    requires { effect < 256 * span }
+    ensures { IsStep (step_in code effect) result }
 {
     if code < CROSSING {
-        targets[p] = NO_ROW;
-        priorities[p] = 0;
-        return n;
+        return None;
     }
-    let number = file_key(next_key(code, effect), n, capacity, keys, heads, links);
-    targets[p] = number as u16;
-    priorities[p] = priority_of(code, effect);
-    rows_after(n, number)
+    if code < INSIDE {
+        let key = key_of(code % CROSSING / SPAN, code % SPAN);
+        return Some(Transition { key, priority: 1 });
+    }
+    let key = key_of(code / 65536 % 1024, effect % SPAN);
+    let priority = (effect / SPAN) as u8;
+    Some(Transition { key, priority })
 }
 
-// Reads row i by all letters, as long as there is room, and gives how many rows are known then.
-fn read_row(
-    task: Task,
-    cells: &[u32],
-    i: usize,
-    n: usize,
-    capacity: usize,
-    keys: &mut [u32],
-    heads: &mut [u16],
-    links: &mut [u16],
-    targets: &mut [u16],
-    priorities: &mut [u8],
-) -> usize
-    requires { Closed task cells.now × (i < n) × Known task cells.now capacity n (i * task.letters) (lent keys.old targets.old priorities.old) × Linked n keys.old heads.old links.old × LinkRoom capacity (n + task.letters) links.old }
-    ensures { RowSays task cells.now capacity n i (lent keys.old targets.old priorities.old) (lent keys.new targets.new priorities.new) result × (result ≤ capacity → Linked result keys.new heads.new links.new) }
-{
-    let rule = task.rule;
-    let m = task.letters;
-    let key = keys[i];
-    let first = (key / SPAN) as usize * m;
-    let mut effects = [0; MAX_LETTERS as usize];
-    let stride = write_effects(rule, key % SPAN, cells, first, m, &mut effects);
-    let mut known = n;
-    let mut a = 0;
-    // row i is read by the letters below a, and `known` rows are known
-    while (a < task.letters) & (known <= capacity) {
-        known = read_cell(
-            cells[first + a],
-            effects[a * stride],
-            i * task.letters + a,
-            known,
-            capacity,
-            keys,
-            heads,
-            links,
-            targets,
-            priorities,
-        );
-        a += 1;
+impl<'a> Rows<'a> {
+    // Reads a cell, number p of the parity table, whose code and effect are given, and gives how many rows are known then.
+    fn read_cell<const SLOTS: usize, const ROOM: usize>(
+        &mut self,
+        code: u32,
+        effect: u32,
+        p: usize,
+        n: usize,
+        index: &mut Index<SLOTS, ROOM>,
+    ) -> Option<usize>
+        requires { Filed self.old.capacity n self.old.keys.now × Linked n self.old.keys.now index.old.heads index.old.links × (n < self.old.capacity → n < ROOM) × (effect < 256 * span) × (p < length self.old.targets.now) × (p < length self.old.priorities.now) }
+        ensures cell { CellRead (step_in code effect) self.old.capacity n p (lent_in self.old) (lent_in self.new) index.new.heads index.new.links result }
+        ensures same { SameLent self.old self.new }
+    {
+        let Some(step) = transition_of(code, effect) else {
+            self.targets[p] = NO_ROW;
+            self.priorities[p] = 0;
+            return Some(n);
+        };
+        let keys = &mut *self.keys;
+        let row = file_key(step.key, n, self.capacity, keys, index)?;
+        self.targets[p] = row.number as u16;
+        self.priorities[p] = step.priority;
+        Some(row.known)
     }
-    known
-}
 
-// Reads rows from number `row` on, where n are known, until all are read or more than `limit` or the capacity are known.
-fn read_rows(
-    task: Task,
-    cells: &[u32],
-    row: usize,
-    n: usize,
-    limit: usize,
-    capacity: usize,
-    keys: &mut [u32],
-    heads: &mut [u16],
-    links: &mut [u16],
-    targets: &mut [u16],
-    priorities: &mut [u8],
-) -> Progress
-    requires { Closed task cells.now × Stage task cells.now capacity row n (lent keys.old targets.old priorities.old) × Linked n keys.old heads.old links.old × LinkRoom capacity (limit + task.letters) links.old }
-    ensures { RowsSay task cells.now n limit capacity result.row (lent keys.old targets.old priorities.old) (lent keys.new targets.new priorities.new) result.known }
-{
-    let mut known = n;
-    let mut i = row;
-    // the rows below i are read, and `known` rows are known
-    while (i < known) & ((known <= limit) & (known <= capacity)) {
-        known = read_row(
-            task, cells, i, known, capacity, keys, heads, links, targets, priorities,
-        );
-        i += 1;
+    // Reads row i by all letters, and gives how many rows are known then.
+    fn read_row<R: Rule, const SLOTS: usize, const ROOM: usize>(
+        &mut self,
+        checked: Checked,
+        i: usize,
+        n: usize,
+        index: &mut Index<SLOTS, ROOM>,
+    ) -> Option<usize>
+        requires { (i < n) × Known R.effect checked.task checked.cells.now self.old.capacity n (i * checked.task.letters) (lent_in self.old) × Linked n self.old.keys.now index.old.heads index.old.links × LinkRoom self.old.capacity (n + checked.task.letters) ROOM }
+        ensures row { RowRead R.effect checked.entry.task checked.entry.cells.now self.old.capacity n i (lent_in self.old) (lent_in self.new) index.new.heads index.new.links result }
+        ensures same { SameLent self.old self.new }
+    {
+        let m = checked.task.letters;
+        let key = self.keys[i];
+        let first = (key / SPAN) as usize * m;
+        let row = &checked.cells[first..first + m];
+        let mut effects = [0; MAX_LETTERS as usize];
+        let stride = write_effects::<R>(key % SPAN, row, &mut effects);
+        let mut known = n;
+        // row i is read by the letters below a, and `known` rows are known
+        for (a, code) in row.iter().enumerate() {
+            known = self.read_cell(*code, effects[a * stride], i * m + a, known, index)?;
+        }
+        Some(known)
     }
-    Progress { row: i, known }
-}
 
-// Reads the rows from number `row` on, where n are known, with a large index; gives how many there are, or a number above the capacity.
-fn read_many(
-    task: Task,
-    cells: &[u32],
-    row: usize,
-    n: usize,
-    capacity: usize,
-    keys: &mut [u32],
-    targets: &mut [u16],
-    priorities: &mut [u8],
-) -> usize
-    requires { Closed task cells.now × Stage task cells.now capacity row n (lent keys.old targets.old priorities.old) }
-    ensures { ExploresAll task cells.now capacity (lent keys.old targets.old priorities.old) (lent keys.new targets.new priorities.new) result × (n ≤ result) }
-{
-    let mut heads = [0; SLOTS];
-    let mut links = [0; MAX_ROWS];
-    index_keys(n, keys, &mut heads, &mut links);
-    let all = read_rows(
-        task, cells, row, n, capacity, capacity, keys, &mut heads, &mut links, targets, priorities,
-    );
-    all.known
-}
-
-// Reads all rows; gives how many there are, or a number above the capacity. A small index serves while it has room for the next row's targets.
-pub(crate) fn explore(
-    task: Task,
-    cells: &[u32],
-    capacity: usize,
-    keys: &mut [u32],
-    targets: &mut [u16],
-    priorities: &mut [u8],
-) -> usize
-    requires { Closed task cells.now × RowRoom task.letters capacity targets.old priorities.old keys.old }
-    ensures { ExploresAll task cells.now capacity (lent keys.old targets.old priorities.old) (lent keys.new targets.new priorities.new) result }
-{
-    let mut heads = [0; FEW_SLOTS];
-    let mut links = [0; FEW_ROWS];
-    keys[0] = task.start;
-    index_keys(1, keys, &mut heads, &mut links);
-    let few = read_rows(
-        task, cells, 0, 1, FEW_LIMIT, capacity, keys, &mut heads, &mut links, targets, priorities,
-    );
-    if (few.row == few.known) | (capacity < few.known) {
-        return few.known;
+    // Reads rows from where an exploration has come, with an index of its own, until all are read or more than `limit` are known.
+    fn read_from<R: Rule, const SLOTS: usize, const ROOM: usize>(
+        &mut self,
+        checked: Checked,
+        from: Progress,
+        limit: usize,
+    ) -> Option<Progress>
+        requires { Stage R.effect checked.task checked.cells.now self.old.capacity from.row from.known (lent_in self.old) × (0 < SLOTS) × (SLOTS ≤ max_slots) × (from.known ≤ ROOM) × (ROOM ≤ max_rows) × LinkRoom self.old.capacity (limit + checked.task.letters) ROOM }
+        ensures rows { RowsRead R.effect checked.entry.task checked.entry.cells.now from.known limit self.old.capacity (lent_in self.old) (lent_in self.new) result }
+        ensures same { SameLent self.old self.new }
+    {
+        let keys = &mut *self.keys;
+        let mut index = Index::<SLOTS, ROOM>::of(from.known, keys);
+        let mut known = from.known;
+        let mut i = from.row;
+        // a while: its bound grows as rows are found; the rows below i are read, and `known` rows are known
+        while i < known && known <= limit {
+            known = self.read_row::<R, SLOTS, ROOM>(checked, i, known, &mut index)?;
+            i += 1;
+        }
+        Some(Progress { row: i, known })
     }
-    read_many(
-        task, cells, few.row, few.known, capacity, keys, targets, priorities,
-    )
+
+    // Reads all rows, and gives how many there are. A small index serves while it has room for the next row's targets.
+    pub(crate) fn explore<R: Rule>(&mut self, checked: Checked) -> Option<usize>
+        requires { RowRoom checked.task.letters self.old.capacity self.old.targets.now self.old.priorities.now self.old.keys.now }
+        ensures all { AllRead R.effect checked.entry.task checked.entry.cells.now self.old.capacity (lent_in self.old) (lent_in self.new) result }
+        ensures same { SameLent self.old self.new }
+    {
+        self.keys[0] = checked.task.start;
+        let first = Progress { row: 0, known: 1 };
+        let few = self.read_from::<R, FEW_SLOTS, FEW_ROWS>(checked, first, FEW_LIMIT)?;
+        if few.row == few.known {
+            return Some(few.known);
+        }
+        let all = self.read_from::<R, SLOTS, MAX_ROWS>(checked, few, self.capacity)?;
+        Some(all.known)
+    }
 }

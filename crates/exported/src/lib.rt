@@ -6,19 +6,73 @@
 ghost use Rattle.std.specs.Prelude.{◌≡◌};
 ghost use Rattle.rules.specs.Says.{CheckSays, ComponentsSay, ComponentsMean, TranslateSays, TranslationAgrees, TranslationMeans, ForecastSays, ForecastMeans, RabinSays, RabinMeans, ParitySays, ParityMeans, row_arrays};
 ghost use Rattle.rules.specs.Listings.{ListingSays};
+ghost use Rattle.rules.specs.Numbered.{number_in};
 ghost use Rattle.rules.specs.Tables.{table_of};
+ghost use Rattle.translate.specs.Answers as Translated;
+ghost use Rattle.forecast.specs.Forecasts as Foretold;
 ghost use Rattle.components.specs.Calls.{ComponentsFound, ReachFound, PathFound};
 ghost use Rattle.judge.specs.Judgements.{answer_of};
 ghost use Rattle.exported.specs.Results.{answered, RestLies};
 
 use components::{find_reached, path_to};
-use forecast::{Forecast, forecast_table};
+use forecast::forecast_table;
 use judge::{Judged, judge_parity, rest_of};
 use judge_rabin::judge_rabin;
 use listing_text::list_table;
+use rules::refusal::{Refusal, number_in};
 use survey::find_components;
 use tables::{check_table, letters_of};
-use translate::{Translation, translate_table};
+use translate::translate_table;
+
+// What a translation gives: the refusal or 0, and the number of rows, 0 on a refusal.
+#[repr(C)]
+#[derive(Clone, Copy)]
+pub struct Translation {
+    pub number: u8,
+    pub rows: usize,
+}
+
+impl From<Result<usize, Refusal>> for Translation {
+    ghost from_gives = { λ answer translation. (translation.number ≡ number_in answer) × (translation.rows ≡ Translated.rows_in answer) };
+
+    fn from(answer: Result<usize, Refusal>) -> Translation {
+        match answer {
+            Ok(rows) => Translation { number: 0, rows },
+            Err(refusal) => Translation {
+                number: u8::from(refusal),
+                rows: 0,
+            },
+        }
+    }
+}
+
+// What a forecast gives: the refusal or 0, and the figures, 0 on a refusal: the most rows, and the most pairs that count in one component.
+#[repr(C)]
+#[derive(Clone, Copy)]
+pub struct Forecast {
+    pub number: u8,
+    pub rows: u32,
+    pub pairs: u8,
+}
+
+impl From<Result<forecast::Forecast, Refusal>> for Forecast {
+    ghost from_gives = { λ answer forecast. (forecast.number ≡ number_in answer) × (forecast.rows ≡ Foretold.rows_in answer) × (forecast.pairs ≡ Foretold.pairs_in answer) };
+
+    fn from(answer: Result<forecast::Forecast, Refusal>) -> Forecast {
+        match answer {
+            Ok(forecast) => Forecast {
+                number: 0,
+                rows: forecast.rows,
+                pairs: forecast.pairs,
+            },
+            Err(refusal) => Forecast {
+                number: u8::from(refusal),
+                rows: 0,
+                pairs: 0,
+            },
+        }
+    }
+}
 
 // A judge's answer as two numbers (RULES, "Judges"): 0 accepts, 1 rejects, 2 stops with the letters read, 3 refused with the number.
 #[repr(C)]
@@ -26,6 +80,25 @@ use translate::{Translation, translate_table};
 pub struct Answer {
     pub kind: u32,
     pub value: u32,
+}
+
+impl From<Judged> for Answer {
+    ghost from_gives = { λ judged answer. answered answer ≡ answer_of judged };
+
+    fn from(judged: Judged) -> Answer {
+        match judged {
+            Judged::Accepts => Answer { kind: 0, value: 0 },
+            Judged::Rejects => Answer { kind: 1, value: 0 },
+            Judged::Stops(read) => Answer {
+                kind: 2,
+                value: read,
+            },
+            Judged::Refused(number) => Answer {
+                kind: 3,
+                value: u32::from(number),
+            },
+        }
+    }
 }
 
 // Where the rest of a piece lies: in the lead-in (0) or in the loop (1), from which letter of that piece on, and how many letters it has.
@@ -42,7 +115,7 @@ pub struct Rest {
 pub extern "C" fn duckbullion_check_table(table: &[u8]) -> u8
     ensures { CheckSays table.now result }
 {
-    check_table(table)
+    number_in(check_table(table))
 }
 
 // The table's letters: its second byte, 0 where there is none.
@@ -59,7 +132,7 @@ pub extern "C" fn duckbullion_find_components(table: &[u8], out: &mut [u8]) -> u
     ensures says { ComponentsSay table.now out.old out.new result }
     ensures means { ComponentsMean table.now out.new result }
 {
-    find_components(table, out)
+    number_in(find_components(table, out))
 }
 
 // The smallest state of each state's component of a system in an array, in the first entries of `out`, with an array to work in.
@@ -90,7 +163,7 @@ pub extern "C" fn duckbullion_find_reached(
 ) -> usize
     ensures { ReachFound states letters from targets.now numbers.old numbers.new queue.old queue.new parents.old parents.new by.old by.new result }
 {
-    find_reached(states, letters, targets, from, numbers, queue, parents, by)
+    find_reached(states, letters, targets, from, numbers, queue, parents, by).unwrap_or(0)
 }
 
 // The letters of a path to the state at a place, at the end of `out`, and where they begin.
@@ -112,7 +185,7 @@ pub extern "C" fn duckbullion_forecast_table(table: &[u8]) -> Forecast
     ensures says { ForecastSays table.now result.number result.rows result.pairs }
     ensures means { ForecastMeans table.now result.number result.rows result.pairs }
 {
-    forecast_table(table)
+    Forecast::from(forecast_table(table))
 }
 
 // The parity table of a Rabin table, in the lent arrays.
@@ -129,7 +202,7 @@ pub extern "C" fn duckbullion_translate_table(
     ensures agrees { TranslationAgrees table.now targets.new priorities.new sources.new result.number result.rows }
     ensures means { TranslationMeans table.now capacity result.number }
 {
-    translate_table(table, capacity, targets, priorities, sources, records)
+    Translation::from(translate_table(table, capacity, targets, priorities, sources, records))
 }
 
 // The listing of a table's translation, in `out` as far as it fits; the result is the length of the whole text.
@@ -148,31 +221,13 @@ pub extern "C" fn duckbullion_list_table(
     list_table(table, capacity, targets, priorities, sources, records, out)
 }
 
-// An answer's kind and value.
-fn answer_of(judged: Judged) -> Answer
-    ensures { answered result ≡ answer_of judged }
-{
-    match judged {
-        Judged::Accepts => Answer { kind: 0, value: 0 },
-        Judged::Rejects => Answer { kind: 1, value: 0 },
-        Judged::Stops(read) => Answer {
-            kind: 2,
-            value: read,
-        },
-        Judged::Refused(number) => Answer {
-            kind: 3,
-            value: number as u32,
-        },
-    }
-}
-
 // The answer of a Rabin table to a looped word.
 #[unsafe(no_mangle)]
 pub extern "C" fn duckbullion_judge_rabin(table: &[u8], lead: &[u8], looped: &[u8]) -> Answer
     ensures says { RabinSays table.now lead.now looped.now (answered result) }
     ensures means { RabinMeans table.now lead.now looped.now (answered result) }
 {
-    answer_of(judge_rabin(table, lead, looped))
+    Answer::from(judge_rabin(table, lead, looped))
 }
 
 // The answer of a parity table to a looped word, from anyone's sizes and arrays.
@@ -188,7 +243,7 @@ pub extern "C" fn duckbullion_judge_parity(
     ensures says { ParitySays rows letters targets.now priorities.now lead.now looped.now (answered result) }
     ensures means { ParityMeans rows letters targets.now priorities.now lead.now looped.now (answered result) }
 {
-    answer_of(judge_parity(rows, letters, targets, priorities, lead, looped))
+    Answer::from(judge_parity(rows, letters, targets, priorities, lead, looped))
 }
 
 // From a place of the word to the end of its piece: which piece, from where, and how many letters.

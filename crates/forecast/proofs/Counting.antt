@@ -2,9 +2,13 @@
 --     orders_at, factorial_few                    the table of orders holds factorials, and they are small
 --     bits_counted, kept_counted                  how many bits are set, and how many numbers pass a test
 --     pairs_counted                               the pairs that count at a state, by the set of them
---     FiguresBelow, figures_none, figures_more    the figures of the states below q, one state more
+--     FiguresBelow, figures_more                  the figures of the states below q, one state more
+--     added_few, figures_turn                     one turn of the loop: the sum fits, and the figures are those of one state more
 --     sets_few, figures_are                       the sets are small, and the figures of all states are the table's
 --     refused_says, forecast_says                 what the call promises
+--     surveyed_few, surveyed_says                 the same of a table that is laid out and surveyed: its sets are small, and what the call promises
+use Rattle.std.proofs.Common.{nat_cmp, rules, tests}
+use Rattle.std.specs.Ordering.{ord_max}
 use mathlib.Core.Path.{◌≡◌, refl, sym, ap, ap₂, ◌∙◌}
 use mathlib.Core.Bool.{Bool}
 use mathlib.Core.List.{List, [], ◌∷◌}
@@ -14,10 +18,11 @@ use native.Mathlib.Numerals.{add-one}
 use native.Mathlib.Omega.{arith}
 use lib.Count.{ones, ones_cat, ones-le}
 use lib.Dec.{ltb}
-use lib.ListN.{length, get_or, length-append}
+use lib.ListN.{length, get_or, take, length-take, length-append}
+use lib.Seq.{get_or-take}
 use borrow.Author.Tests.{ne_eqb, lt-ltb, le-ltb}
 use Rattle.rules.specs.Basics.{pick, when, sum_below, most_below, keep, tabulate, as_bits}
-use Rattle.rules.specs.Limits.{max_pairs}
+use Rattle.rules.specs.Limits.{max_states, max_letters, max_pairs}
 use Rattle.rules.specs.Systems.{reaches, component_of}
 use Rattle.rules.specs.Tables.{Table, table_of, table_fault, system_of, counts}
 use Rattle.rules.specs.Forecasts.{factorial, pairs_at, forecast_rows, forecast_pairs}
@@ -29,8 +34,11 @@ use Rattle.rules.proofs.Bools.{by}
 use Rattle.rules.proofs.Reaching.{component_below}
 use Rattle.rules.proofs.Forecasts.{sum_same, most_same, rows_by_state, pairs_by_state, forecast_means}
 use Rattle.components.specs.Calls.{component_from}
-use Rattle.survey.specs.Layouts.{counted_pairs}
+use Rattle.tables.specs.Parts.{WellFormed}
+use Rattle.survey.specs.Layouts.{IsTable, counted_pairs, LaySays, ReachedSays}
 use Rattle.survey.specs.Parts.{Listed}
+use Rattle.survey.proofs.Laying.{is_table}
+use Rattle.survey.proofs.Tables.{many_cells, LaidTable, laid_table, laid_formed, surveyed_reached}
 use Rattle.forecast.specs.Figures.{rows_at, FiguresSay}
 
 -- ---- orders
@@ -89,10 +97,7 @@ pub record FiguresBelow (n : ℕ) (hs cs : List ℕ) (q rows pairs : ℕ) : Type
   pub few_rows : rows ≤ q * 720
   pub few_pairs : pairs ≤ max_pairs
 
-pub figures_none : (n : ℕ) (hs cs : List ℕ) → FiguresBelow n hs cs 0 0 0
-figures_none n hs cs = record { row_sum = refl; most_pairs = refl; few_rows = omega arith; few_pairs = omega arith }
-
-pub rows_few : (n : ℕ) (hs cs : List ℕ) (q : ℕ) → ones (get_or cs q 0) ≤ max_pairs → rows_at n hs cs q ≤ 720
+rows_few : (n : ℕ) (hs cs : List ℕ) (q : ℕ) → ones (get_or cs q 0) ≤ max_pairs → rows_at n hs cs q ≤ 720
 rows_few n hs cs q l = by (ltb (get_or hs q 0) n) (λ e. rw e (factorial_few (ones (get_or cs q 0)) l)) (λ e. rw e (omega arith))
 
 pub figures_more : (n : ℕ) (hs cs : List ℕ) (q rows pairs : ℕ) → ones (get_or cs q 0) ≤ max_pairs → FiguresBelow n hs cs q rows pairs
@@ -104,6 +109,28 @@ figures_more n hs cs q rows pairs l x =
       few_rows = omega (arith, x.few_rows, rows_few n hs cs q l);
       few_pairs = omega (arith, x.few_pairs);
     }
+
+-- the library's larger number
+larger : (a b : ℕ) → ord_max nat_cmp a b ≡ max b a
+larger a b = search (rules, tests)
+
+-- one turn of the loop reads the entries at k of the first n homes and of the first n sets
+module _ (n : ℕ) (hs cs : List ℕ) {k home set added : ℕ}
+    (turn : (k < length (take n hs)) × (k < length (take n cs)) × ((d : ℕ) → home ≡ get_or (take n hs) k d) × ((d : ℕ) → set ≡ get_or (take n cs) k d))
+    (are : added ≡ when (ltb home n) (factorial (ones set))) (few : (q : ℕ) → q < n → ones (get_or cs q 0) ≤ max_pairs)
+  where
+    below : k < n
+    below = omega (arith, turn.0, length-take n hs)
+
+    pub added_is : added ≡ rows_at n hs cs k
+    added_is = rw (are, turn.2 0, turn.3 0, get_or-take n hs k 0 below, get_or-take n cs k 0 below)
+
+    pub added_few : n ≤ max_states → (rows pairs : ℕ) → FiguresBelow n hs cs k rows pairs → rows + added ≤ 46080
+    added_few ln rows pairs x = omega (arith, x.few_rows, added_is, below, rows_few n hs cs k (few k below))
+
+    pub figures_turn : (rows pairs most : ℕ) → most ≡ ord_max nat_cmp pairs (ones set) → FiguresBelow n hs cs k rows pairs
+        → FiguresBelow n hs cs (k + 1) (rows + added) most
+    figures_turn rows pairs most e x = rw (added_is, e, turn.3 0, get_or-take n cs k 0 below, larger) (figures_more n hs cs k rows pairs (few k below) x)
 
 -- ---- what was surveyed
 module _ (t : Table) (hs cs : List ℕ) (hl : Listed t.states (component_from (system_of t) t.start) hs)
@@ -142,3 +169,30 @@ pub forecast_says : {bs : List ℕ} {rows pairs : ℕ} → 0 ≡ table_fault bs 
 forecast_says {bs} {rows} {pairs} e f =
     let says : ForecastSays bs 0 rows pairs = record { refusal = e; row_figure = f.0; pair_figure = f.1 } in
     (says, forecast_means bs 0 rows pairs says)
+
+-- a table laid out in arrays for any table, and surveyed from its start
+module _ (bs ts ts' ms ms' hs hs' cs cs' : List ℕ) {n m start : ℕ} {r : Bool} (lt : length ts ≡ max_states * max_letters) (lm : length ms ≡ max_states * max_letters)
+    (lh : length hs ≡ max_states) (lc : length cs ≡ max_states) (kt : length ts' ≡ length ts) (km : length ms' ≡ length ms)
+    (kh : length hs' ≡ length hs) (kc : length cs' ≡ length cs) (laid : LaySays bs ts ts' ms ms' 0 n m start)
+    (reached : ReachedSays n m start ts' ms' hs hs' cs cs' r)
+  where
+    abbrev t : Table
+    t = table_of bs
+
+    formed : WellFormed bs
+    formed = laid_formed (rw lt (many_cells bs)) (rw lm (many_cells bs)) laid
+
+    good : IsTable t
+    good = is_table bs formed
+
+    table : LaidTable t n m start ts' ms'
+    table = laid_table formed refl kt km (rw lt (many_cells bs)) (rw lm (many_cells bs)) laid
+
+    survey : Listed t.states (component_from (system_of t) t.start) hs' × Listed t.states (λ q. pick (reaches (system_of t) t.start q) (counted_pairs t q) 0) cs'
+    survey = surveyed_reached good table (omega (arith, good.few_states)) (omega (arith, good.few_states)) kh kc reached
+
+    pub surveyed_few : (n ≤ max_states) × ((q : ℕ) → q < n → ones (get_or cs' q 0) ≤ max_pairs)
+    surveyed_few = rw table.states (good.few_states, sets_few t hs' cs' survey.0 survey.1 good.few_pairs)
+
+    pub surveyed_says : {rows pairs : ℕ} → FiguresSay n hs' cs' rows pairs → ForecastSays bs 0 rows pairs × ForecastMeans bs 0 rows pairs
+    surveyed_says f = forecast_says (sym formed) (figures_are t hs' cs' survey.0 survey.1 (rw table.states at f))

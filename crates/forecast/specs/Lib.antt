@@ -1,2 +1,3 @@
 -- What the crate's contracts cite beyond the rules.
 pub mod Figures
+pub mod Forecasts

@@ -1,36 +1,31 @@
 -- The checks before a judgement, and the refusals that they give.
---     first_given, first_same    a refusal whose test holds is the first; refusals by equal numbers
---     refused_given              a refusal that is given is the answer
---     byte_letters               over more letters than a byte can say the table is refused, whatever the word is
---     parity_tests               the refusal of a parity table by its tests: of the sizes, of the arrays' lengths, of the targets
---     within_limits              what the test of the sizes leaves
---     part_rest                  the part of a list from a place to the end is what is left from that place on
+--     first_given      a refusal whose test holds is the first
+--     refused_given    a refusal that is given is the answer
+--     byte_letters     over more letters than a byte can say the table is refused, whatever the word is
+--     parity_tests     the refusal of a parity table by its tests: of the sizes, of the arrays' lengths, of the targets
+--     part_rest        the part of a list from a place to the end is what is left from that place on
 use mathlib.Core.Path.{◌≡◌, refl, sym, ◌∙◌}
-use mathlib.Core.Bool.{Bool, false, ◌||◌, or_assoc}
+use mathlib.Core.Bool.{Bool, ◌||◌, or_assoc}
 use mathlib.Core.List.{List}
-use Prim.Native.Nat.{ℕ, zero, suc, ◌-◌, ◌*◌, ◌≤◌, min}
-use native.Mathlib.Nat.{mul-le-mul}
+use Prim.Native.Nat.{ℕ, zero, suc, ◌-◌, ◌*◌, min}
 use native.Mathlib.Omega.{arith}
 use lib.Dec.{eqb, ltb, leb-suc-suc, leb-zero}
 use lib.ListN.{length, take, drop, length-drop}
 use lib.Seq.{take-length}
-use borrow.Author.Tests.{eqb-true, eqb-false, ltb-false}
+use borrow.Author.Tests.{eqb-true, eqb-false}
 use Rattle.rules.specs.Basics.{first_of, when}
 use Rattle.rules.specs.Limits.{max_letters, max_rows, no_row}
 use Rattle.rules.specs.Refusals as Refusal
 use Rattle.rules.specs.Tables.{bad_targets}
 use Rattle.rules.specs.Answers.{Answer, refused, unless_refused}
 use Rattle.rules.specs.Judges.{word_fault, parity_fault}
-use Rattle.rules.proofs.Bools.{by, or_none}
-use Rattle.rules.proofs.Refusals.{in_range, parity_facts}
+use Rattle.rules.proofs.Bools.{by}
+use Rattle.rules.proofs.Refusals.{parity_facts}
 
 -- ---- refusals
 pub first_given : (a b : ℕ) → (a ≡ 0 → ⊥) → a ≡ first_of a b
 first_given zero b d = absurd (d refl)
 first_given (suc a) b d = refl
-
-pub first_same : {a a' b b' : ℕ} → a ≡ a' → b ≡ b' → first_of a b ≡ first_of a' b'
-first_same e f = rw (e, f)
 
 pub refused_given : (f : ℕ) (x : Answer) → (f ≡ 0 → ⊥) → refused f ≡ unless_refused f x
 refused_given zero x d = absurd (d refl)
@@ -52,12 +47,6 @@ sizes_out n m = eqb n 0 || (ltb max_rows n || (eqb m 0 || ltb max_letters m))
 pub parity_tests : (n m : ℕ) (ts ps : List ℕ)
     → parity_fault n m ts ps ≡ when (sizes_out n m || ((ltb (length ts) (n * m) || ltb (length ps) (n * m)) || bad_targets n no_row (take (n * m) ts))) Refusal.parity
 parity_tests n m ts ps = simp or_assoc
-
-pub within_limits : (n m : ℕ) → sizes_out n m ≡ false → (n ≤ max_rows) × (n * m ≤ max_rows * max_letters)
-within_limits n m h =
-    let a = in_range max_rows n (eqb m 0 || ltb max_letters m) h in
-    let letters = ltb-false max_letters m (or_none (eqb m 0) (ltb max_letters m) a.2).1 in
-    (a.1, mul-le-mul a.1 letters)
 
 -- ---- the rest of a piece
 pub part_rest : (xs : List ℕ) (i : ℕ) → take (length xs - i) (drop i xs) ≡ drop i xs

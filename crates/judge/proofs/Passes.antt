@@ -1,15 +1,16 @@
 -- A word that is read pass by pass, over any transition system.
 --     misses_judged                                     the answer where the lead-in meets a missing transition
---     underway_entry, underway_next, underway_kept      the lead-in is read; one pass more, and its sum
+--     underway_next, underway_kept                      one pass more, and its sum
 --     underway_state, underway_count, underway_early    what holds of a word that is being read, and as long as a pass begins at a new place
 --     underway_misses                                   the answer where a pass meets a missing transition
 --     round_earlier, round_judged, round_sums           the next pass begins where an earlier one began: that one, the answer, the sum of the recurring
 --                                                       transitions
+--     round_decided                                     the answer, where it is decided by a sum
 use mathlib.Core.Path.{◌≡◌, refl, sym, ap, ◌∙◌, subst⁻¹}
 use mathlib.Core.Bool.{Bool, false}
 use mathlib.Core.List.{List}
 use Prim.Native.Nat.{ℕ, zero, suc, ◌+◌, ◌-◌, ◌*◌, ◌<◌, ◌≤◌}
-use native.Mathlib.Nat.{not-suc-le-zero, zero-mul, suc-mul, mul-le-mul}
+use native.Mathlib.Nat.{suc-mul, mul-le-mul}
 use native.Mathlib.Numerals.{add-one}
 use native.Mathlib.Omega.{arith}
 use lib.Dec.{eqb, ltb}
@@ -25,18 +26,9 @@ use Rattle.rules.proofs.Pigeonhole.{pigeonhole}
 use Rattle.rules.proofs.Sets.{any_append}
 use Rattle.rules.proofs.Runs.{path_end, pass_append, turns_below}
 use Rattle.rules.proofs.Judging.{judged_lead, judged_pass, judged_round}
-use Rattle.judge.specs.Passes.{SumsUp, MissesAfter, Blank, Begun, SumsKept, WordUnderway}
+use Rattle.judge.specs.Passes.{SumsUp, MissesAfter, Begun, SumsKept, WordUnderway}
 
 module _ (s : System) (l : List ℕ) (e : ℕ) where
-  begun_none : (n : ℕ) (begun : List ℕ) → Blank n begun → Begun s l e 0 e begun
-  begun_none n begun b =
-      record {
-        here = refl;
-        reads = λ i h. absurd (not-suc-le-zero h);
-        noted = λ i h. absurd (not-suc-le-zero h);
-        only = λ x i h. absurd (omega (arith, h, b.none x));
-      }
-
   module _ (r q : ℕ) (begun : List ℕ) (b : Begun s l e r q begun) where
     begun_next : (x v : ℕ) → get_or begun q 0 ≡ 0 → q < length begun → Path s q l x → v ≡ r + 1 → Begun s l e (r + 1) x (set begun q v)
     begun_next x v new within a is =
@@ -101,18 +93,6 @@ module _ (s : System) (l : List ℕ) (e : ℕ) where
         (sym (ap (any (λ x. t k (g x))) (pass_append s l (repeated d l) (turn s l i e)) ∙ any_append (λ x. t k (g x)) (pass_from s (turn s l i e) l) (pass_from s (turn s l (suc i) e) (repeated d l))))
 
 module _ (s : System) (q : ℕ) (lead l : List ℕ) where
-  pub underway_entry : (e : ℕ) (begun : List ℕ) → Path s q lead e → e < s.states → Blank s.states begun → WordUnderway s q lead l e 0 e (length lead) 0 begun
-  underway_entry e begun a h b =
-      record {
-        entry = a;
-        entry_state = h;
-        passes = begun_none s l e s.states begun b;
-        few = omega arith;
-        letters = omega (arith, zero-mul (length l));
-        earlier = sym (b.none e);
-        room = b.enough;
-      }
-
   pub misses_judged : (good : List Taken → Bool) → q < s.states → stray_letter s.letters lead ≡ false → stray_letter s.letters l ≡ false → (n : ℕ) → MissesAfter s q lead n
       → judged_by s q lead l good ≡ stops n
   misses_judged good is_state lead-ok l-ok n m = judged_lead s q lead l good is_state lead-ok l-ok m.stop ∙ ap stops m.count
@@ -174,3 +154,10 @@ module _ {s : System} {q : ℕ} {lead l : List ℕ} {e r p count first : ℕ} {b
           → SumsUp t (λ x. x) (take (r - (first - 1)) (drop (first - 1) vs)) v → SumsUp t g (recurring s q lead l) v
       round_sums t g vs v enough n h k =
           h k ∙ kept_window s l e t g r vs enough n (r - (first - 1)) (first - 1) (omega (arith, earlier.0)) k ∙ sym (round.1 (λ x. t k (g x)))
+
+      -- what decides on all transitions that a sum sums up decides on the recurring ones
+      pub round_decided : (t : ℕ → ℕ → Bool) (g : Taken → ℕ) (vs : List ℕ) (v : ℕ) → r ≤ length vs → SumsKept s l e t g r vs
+          → SumsUp t (λ x. x) (take (r - (first - 1)) (drop (first - 1) vs)) v → (b : Bool) → ((xs : List Taken) → SumsUp t g xs v → b ≡ good xs)
+          → judged_by s q lead l good ≡ pick b accepts rejects
+      round_decided t g vs v enough n h b d =
+          round_judged ∙ ap (λ (z : Bool). pick z accepts rejects) (sym (d (recurring s q lead l) (round_sums t g vs v enough n h)))

@@ -3,6 +3,7 @@
 --     piece_more                one letter more that leads on
 --     read_misses               one letter more that meets a missing transition
 --     sums_letter               the sum with one letter more
+--     step_leads                a letter's transition that is there: path and sum with it
 --     misses_within             a missing transition is met before the end of the piece
 --     column_long, column_at    the part of some cells from a letter on: how long it is, and its entries
 use mathlib.Core.Path.{◌≡◌, sym, ap, ◌∙◌}
@@ -21,8 +22,9 @@ use Rattle.rules.specs.Runs.{stray_letter, Taken, taken, pass_from}
 use Rattle.rules.proofs.Bools.{or_none}
 use Rattle.rules.proofs.Reach.{path_append}
 use Rattle.rules.proofs.Runs.{path_end, pass_append}
-use Rattle.judge.specs.Passes.{SumsUp, MissesAfter}
-use Rattle.judge.proofs.Sums.{Joins, sums_more}
+use Rattle.judge.specs.declared.automaton.Reached.{Reached}
+use Rattle.judge.specs.Passes.{SumsUp, Joins, MissesAfter, TransitionIs}
+use Rattle.judge.specs.Sums.{sums_more}
 
 pub letter_below : (m : ℕ) (w : List ℕ) → stray_letter m w ≡ false → (i : ℕ) → i < length w → get_or w i 0 < m
 letter_below m [] h i l = absurd (not-suc-le-zero l)
@@ -55,6 +57,16 @@ module _ (s : System) (p : ℕ) (w : List ℕ) (i q : ℕ) (a : Path s p (take i
     sums_letter u h =
         rw (add-one i, take-suc w i 0 l, pass_append s (take i w) (get_or w i 0 ∷ []) p, path_end s a)
         (sums_more t g j joins (pass_from s p (take i w)) (taken q (get_or w i 0)) u h)
+
+-- a letter's transition that is there
+pub step_leads : (s : System) (t : ℕ → ℕ → Bool) (g : Taken → ℕ) (j : ℕ → ℕ → ℕ) → Joins t j → (p : ℕ) (w : List ℕ) → stray_letter s.letters w ≡ false
+    → (i q u : ℕ) → i < length w → Path s p (take i w) q → SumsUp t g (pass_from s p (take i w)) u
+    → (a : ℕ) → a ≡ get_or w i 0 → (x : Reached) → TransitionIs s g q a x → (v : ℕ) → v ≡ j u x.mark
+    → (x.place < s.states) × Path s p (take (i + 1) w) x.place × SumsUp t g (pass_from s p (take (i + 1) w)) v
+step_leads s t g j joins p w ok i q u l path sums a e x on v f =
+    let there : x.place ≡ s.go q (get_or w i 0) = on.place ∙ ap (s.go q) e in
+    let mark : v ≡ j u (g (taken q (get_or w i 0))) = f ∙ ap (j u) (on.mark ∙ ap (λ (b : ℕ). g (taken q b)) e) in
+    (on.below, rw there (piece_more s p w i q path l (letter_below s.letters w ok i l) (rw there at on.below)), rw mark (sums_letter s p w i q path l t g j joins u sums))
 
 pub misses_within : (s : System) (p : ℕ) (w : List ℕ) (n : ℕ) → MissesAfter s p w n → n < length w
 misses_within s p w n m =

@@ -2,4 +2,4 @@
 pub mod Judgements
 pub mod Parts
 pub mod Passes
-pub mod Sizes
+pub mod Sums

@@ -1,26 +1,86 @@
-// Looped words: their refusals, the rest of a piece, and the judge of parity tables.
+// Looped words: their refusals, the run over a word, the rest of a piece, and the judge of parity tables.
 // It rests on `rules` alone. `judge_parity` and `rest_of` keep the promises `ParitySays` and `RestSays` of the rules, for all arrays, sizes and
-// places; `words` has the refusals of a word, for any judge.
+// places; `run` judges a word on an automaton of any kind, and `words` has the refusals of a word.
 #![tactic(auto)]
 
-use crate::sizes::{MIDDLE_ROWS, SMALL_ROWS};
-
+pub mod automaton;
 mod parity;
-mod sizes;
+pub mod run;
 pub mod words;
 
 ghost use Rattle.std.specs.Prelude.{◌≡◌, length};
 ghost use Rattle.rules.specs.Says.{ParitySays, ParityMeans, RestSays};
-ghost use Rattle.judge.specs.Judgements.{answer_of};
+ghost use Rattle.judge.specs.Judgements.{answer_of, answer_in};
 ghost use Rattle.judge.specs.Parts.{rest_at};
 
+use parity::Parity;
+use rules::limit::MAX_ROWS;
+use rules::refusal::Refusal;
+use run::judge_word;
+use std::fmt;
+
 // A judge's answer to a looped word, for both kinds of table: the letters read before a missing transition, or a refusal's number.
-#[derive(Clone, Copy)]
+// The rules name this form, so a refusal is its number here (RULES, "Forms").
+#[derive(Clone, Copy, PartialEq, Eq)]
 pub enum Judged {
     Accepts,
     Rejects,
     Stops(u32),
     Refused(u8),
+}
+
+impl From<Result<Judged, Refusal>> for Judged {
+    ghost from_gives = { λ answer judged. answer_of judged ≡ answer_in answer };
+
+    fn from(answer: Result<Judged, Refusal>) -> Judged {
+        match answer {
+            Ok(judged) => judged,
+            Err(refusal) => Judged::Refused(u8::from(refusal)),
+        }
+    }
+}
+
+impl fmt::Display for Judged {
+    ghost use Rattle.std.specs.Prelude.{Some};
+    ghost use Rattle.judge.specs.Judgements.{answer_text};
+
+    ghost output = { λ judged. Some (answer_text judged) };
+
+    fn fmt<W: fmt::Write>(&self, f: &mut fmt::Formatter<W>) -> fmt::Result {
+        match self {
+            Judged::Accepts => f.write_str("accepts"),
+            Judged::Rejects => f.write_str("rejects"),
+            Judged::Stops(read) => write!(f, "stops {read}"),
+            Judged::Refused(number) => write!(f, "refused {number}"),
+        }
+    }
+}
+
+// The rows for which the small arrays have room, and the middle ones: clearing arrays for the most rows would take longer than a short word
+// on a table with fewer.
+const SMALL_ROWS: usize = 64;
+
+const MIDDLE_ROWS: usize = 1024;
+
+// The answer of a parity table, or the refusal of the table or of the word.
+fn answer_or_refusal(
+    rows: usize,
+    letters: usize,
+    targets: &[u16],
+    priorities: &[u8],
+    lead: &[u8],
+    looped: &[u8],
+) -> Result<Judged, Refusal>
+    ensures { ParitySays rows letters targets.now priorities.now lead.now looped.now (answer_in result) }
+{
+    let table = Parity::check(rows, letters, targets, priorities)?;
+    if let Some(small) = table.within::<SMALL_ROWS>() {
+        return judge_word(small, lead, looped);
+    }
+    if let Some(middle) = table.within::<MIDDLE_ROWS>() {
+        return judge_word(middle, lead, looped);
+    }
+    judge_word(table, lead, looped)
 }
 
 // The answer of a parity table, from anyone's sizes and arrays.
@@ -35,19 +95,7 @@ pub fn judge_parity(
     ensures says { ParitySays rows letters targets.now priorities.now lead.now looped.now (answer_of result) }
     ensures means { ParityMeans rows letters targets.now priorities.now lead.now looped.now (answer_of result) }
 {
-    let table_fault = parity::parity_fault(rows, letters, targets, priorities);
-    let word_fault = words::word_fault(words::byte_of(letters), lead, looped);
-    let refused = words::first_fault(table_fault, word_fault);
-    if refused != 0 {
-        return Judged::Refused(refused);
-    }
-    if rows <= SMALL_ROWS {
-        return sizes::judge_small(rows, letters, targets, priorities, lead, looped);
-    }
-    if rows <= MIDDLE_ROWS {
-        return sizes::judge_middle(rows, letters, targets, priorities, lead, looped);
-    }
-    sizes::judge_large(rows, letters, targets, priorities, lead, looped)
+    Judged::from(answer_or_refusal(rows, letters, targets, priorities, lead, looped))
 }
 
 // From a place of the word to the end of its piece, as that part of the lead-in or of the loop; past the last letter the empty

@@ -1,159 +1,147 @@
-// The refusal of a parity table, and the run over one: the word is read pass by pass, until a pass begins where an earlier one began. Of
-// each pass only the largest priority is kept, so the memory does not grow with the loop, and a pass is read once.
-ghost use Rattle.std.specs.Prelude.{◌≡◌, false, ◌<◌, ◌≤◌, max, ltb, length};
-ghost use Rattle.rules.specs.Limits.{no_row};
-ghost use Rattle.rules.specs.Judges.{parity_system, priority_at, parity_fault, word_fault, parity_run};
-ghost use Rattle.rules.specs.Runs.{stray_letter};
+// A parity table that passed its check, as an automaton. A transition's mark is its priority.
+ghost use Rattle.std.specs.Prelude.{◌≡◌, ◌<◌, ◌≤◌, ltb, max, IfOk, MatchOption};
+ghost use Rattle.rules.specs.Limits.{max_rows, no_row};
+ghost use Rattle.rules.specs.Judges.{parity_system, priority_at, parity_good, parity_fault};
+ghost use Rattle.rules.specs.Numbered.{number_in};
 ghost use Rattle.rules.specs.Tables.{bad_targets};
-ghost use Rattle.judge.specs.Judgements.{answer_of};
-ghost use Rattle.judge.specs.Passes.{SumsUp, SumsUpOn, PieceSays, Blank};
+ghost use Rattle.rules.proofs.Refusals.{parity_facts};
+ghost use Rattle.judge.specs.Sums.{nothing_above, largest_joins};
 
-use crate::Judged;
+use crate::automaton::{Automaton, Reached};
 use rules::limit::{MAX_LETTERS, MAX_ROWS, NO_ROW};
-use rules::refusal;
+use rules::refusal::Refusal;
 
-// Where reading a piece led, or no row where it met a missing transition; the letters read; the largest priority on the way.
-#[derive(Clone, Copy)]
-struct Reading {
-    place: usize,
-    read: usize,
-    peak: u8,
-}
-
-// Some target is neither a row nor that of a missing transition.
+// Some target is neither a row nor that of a missing transition. `tables` has the same over bytes: one function for both would have to speak
+// of an order on any type, where each of the two speaks of numbers.
 fn bad_targets(targets: &[u16], rows: u16) -> bool
     ensures { result ≡ bad_targets rows no_row targets.now }
 {
     let mut bad = false;
-    let mut c = 0;
-    // bad says whether one of the first c targets is wrong
-    while c < targets.len() {
-        let target = targets[c];
-        bad = bad | !((target < rows) | (target == NO_ROW));
-        c += 1;
+    // bad says whether one of the targets so far is wrong
+    for target in targets {
+        bad |= !((*target < rows) | (*target == NO_ROW));
     }
     bad
 }
 
-// The refusal of a parity table, 11, or 0 where the table is well formed.
-pub(crate) fn parity_fault(rows: usize, letters: usize, targets: &[u16], priorities: &[u8]) -> u8
-    ensures { result ≡ parity_fault rows letters targets.now priorities.now }
-{
-    if (rows == 0) | ((MAX_ROWS < rows) | ((letters == 0) | ((MAX_LETTERS as usize) < letters))) {
-        return refusal::PARITY;
-    }
-    let cells = rows * letters;
-    if (targets.len() < cells) | (priorities.len() < cells) {
-        return refusal::PARITY;
-    }
-    if bad_targets(&targets[..cells], rows as u16) {
-        return refusal::PARITY;
-    }
-    0
-}
-
-// The larger of two priorities.
-fn larger(a: u8, b: u8) -> u8
-    ensures { result ≡ max a b }
-{
-    if a < b { b } else { a }
-}
-
-// Reads a piece from a row on, letter by letter, as far as the transitions lead. A letter's column of the table is computed while the row
-// is still being loaded.
-fn read_piece(
+// A parity table with at most ROOM rows.
+#[derive(Clone, Copy)]
+pub(crate) struct Parity<'a, const ROOM: usize> {
     rows: usize,
     letters: usize,
-    targets: &[u16],
-    priorities: &[u8],
-    piece: &[u8],
-    from: usize,
-) -> Reading
-    requires { (parity_fault rows letters targets.now priorities.now ≡ 0) × (stray_letter letters piece.now ≡ false) × (from < rows) }
-    ensures { PieceSays (parity_system rows letters targets.now) from piece.now result.place result.read × SumsUpOn (parity_system rows letters targets.now) ltb (priority_at letters priorities.now) from piece.now result.place result.peak }
-{
-    let mut place = from;
-    let mut peak = 0;
-    let mut i = 0;
-    // the first i letters lead from row `from` to row `place`, and peak is the largest priority on the way
-    while i < piece.len() {
-        let letter = piece[i] as usize;
-        let first = place * letters;
+    targets: &'a [u16],
+    priorities: &'a [u8],
+    ghost well_formed: { parity_fault rows letters targets.now priorities.now ≡ 0 },
+    ghost fits: { (rows ≤ ROOM) × (ROOM ≤ max_rows) },
+}
+
+impl<'a> Parity<'a, MAX_ROWS> {
+    // The parity table of these sizes and arrays, or its refusal.
+    pub(crate) fn check(
+        rows: usize,
+        letters: usize,
+        targets: &'a [u16],
+        priorities: &'a [u8],
+    ) -> Result<Parity<'a, MAX_ROWS>, Refusal>
+        ensures number { number_in result ≡ parity_fault rows letters targets.now priorities.now }
+        ensures same { IfOk result (λ table. (table.rows ≡ rows) × (table.letters ≡ letters) × (table.targets.now ≡ targets.now) × (table.priorities.now ≡ priorities.now)) }
+    {
+        if (rows == 0)
+            | ((MAX_ROWS < rows) | ((letters == 0) | (usize::from(MAX_LETTERS) < letters)))
+        {
+            return Err(Refusal::Parity);
+        }
+        let cells = rows * letters;
+        if (targets.len() < cells) | (priorities.len() < cells) {
+            return Err(Refusal::Parity);
+        }
+        if bad_targets(&targets[..cells], rows as u16) {
+            return Err(Refusal::Parity);
+        }
+        Ok(Parity {
+            rows,
+            letters,
+            targets,
+            priorities,
+        })
+    }
+}
+
+impl<'a, const ROOM: usize> Parity<'a, ROOM> {
+    // The same table, where its rows fit into less room.
+    pub(crate) fn within<const LESS: usize>(self) -> Option<Parity<'a, LESS>>
+        requires { LESS ≤ max_rows }
+        ensures { MatchOption result (LESS < self.entry.rows) (λ table. (table.rows ≡ self.entry.rows) × (table.letters ≡ self.entry.letters) × (table.targets.now ≡ self.entry.targets.now) × (table.priorities.now ≡ self.entry.priorities.now)) }
+    {
+        let Parity {
+            rows,
+            letters,
+            targets,
+            priorities,
+        } = self;
+        if LESS < rows {
+            return None;
+        }
+        Some(Parity {
+            rows,
+            letters,
+            targets,
+            priorities,
+        })
+    }
+}
+
+impl<'a, const ROOM: usize> Automaton<ROOM> for Parity<'a, ROOM> {
+    ghost system = { λ a. parity_system a.rows a.letters a.targets.now };
+
+    ghost start = { λ a. 0 };
+
+    ghost mark = { λ a. priority_at a.letters a.priorities.now };
+
+    ghost test = { ltb };
+
+    ghost join = { max };
+
+    ghost good = { λ a. parity_good a.letters a.priorities.now };
+
+    fn letters(self) -> u8 {
+        self.letters as u8
+    }
+
+    fn start(self) -> usize {
+        0
+    }
+
+    // A letter's column of the table is computed while the row is still being loaded.
+    fn step(self, place: usize, letter: usize) -> Option<Reached> {
+        let first = place * self.letters;
+        let targets = self.targets;
         let column = &targets[letter..];
-        let target = column[first] as usize;
-        if rows <= target {
-            return Reading {
-                place: target,
-                read: i,
-                peak,
-            };
+        let target = usize::from(column[first]);
+        if self.rows <= target {
+            return None;
         }
-        peak = larger(peak, priorities[first + letter]);
-        place = target;
-        i += 1;
+        let priorities = self.priorities;
+        let priority = priorities[first + letter];
+        Some(Reached {
+            place: target,
+            mark: u16::from(priority),
+        })
     }
-    Reading {
-        place,
-        read: i,
-        peak,
-    }
-}
 
-// The largest of some priorities.
-fn peak_of(peaks: &[u8]) -> u8
-    ensures { SumsUp ltb (λ x. x) peaks.now result }
-{
-    let mut peak = 0;
-    let mut i = 0;
-    // peak is the largest of the first i priorities
-    while i < peaks.len() {
-        peak = larger(peak, peaks[i]);
-        i += 1;
+    fn join(self, one: u16, other: u16) -> u16 {
+        one.max(other)
     }
-    peak
-}
 
-// The answer to a word with nothing to refuse. `begun` has for each row one more than the number of the pass that began there, or 0,
-// and `peaks` for each pass its largest priority.
-pub(crate) fn judge_word(
-    rows: usize,
-    letters: usize,
-    targets: &[u16],
-    priorities: &[u8],
-    lead: &[u8],
-    looped: &[u8],
-    begun: &mut [u16],
-    peaks: &mut [u8],
-) -> Judged
-    requires { (parity_fault rows letters targets.now priorities.now ≡ 0) × (word_fault letters lead.now looped.now ≡ 0) × Blank rows begun.old × (rows ≤ length peaks.old) }
-    ensures { answer_of result ≡ parity_run rows letters targets.now priorities.now lead.now looped.now }
-{
-    let entry = read_piece(rows, letters, targets, priorities, lead, 0);
-    if rows <= entry.place {
-        let read = entry.read as u32;
-        return Judged::Stops(read);
+    fn accepts(self, peak: u16) -> bool {
+        peak % 2 == 0
     }
-    let mut place = entry.place;
-    let mut count = lead.len();
-    let mut pass = 0;
-    let mut first = 0;
-    // the lead-in and `pass` passes, count letters in all, lead to `place`; begun and peaks have these passes, and first is begun[place]
-    while first == 0 {
-        let reading = read_piece(rows, letters, targets, priorities, looped, place);
-        if rows <= reading.place {
-            let read = (count + reading.read) as u32;
-            return Judged::Stops(read);
-        }
-        peaks[pass] = reading.peak;
-        pass += 1;
-        begun[place] = pass as u16;
-        count += looped.len();
-        place = reading.place;
-        first = begun[place];
-    }
-    let from = first as usize - 1;
-    if peak_of(&peaks[from..pass]) % 2 == 0 {
-        return Judged::Accepts;
-    }
-    Judged::Rejects
+
+    ghost blank = { nothing_above };
+
+    ghost joins = { largest_joins };
+
+    ghost begins = { λ a. (parity_facts a.rows a.letters a.targets.now a.priorities.now a.well_formed).some_rows };
+
+    ghost fits = { λ a. a.fits };
 }

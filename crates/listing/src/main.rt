@@ -2,7 +2,8 @@
 // refusal. `list` has the whole listing at the front of a text, proved to fit; this program lends the arrays, reads and writes.
 #![tactic(auto)]
 
-ghost use Rattle.std.specs.Prelude.{◌≡◌, ◌≤◌, length, take, IfOk};
+ghost use Rattle.std.specs.Prelude.{◌≡◌, ◌<◌, length, IfOk};
+ghost use Rattle.std.specs.Io.KnownBytes.{Consumes, IsAtEnd};
 ghost use Rattle.rules.specs.Listings.{listing};
 
 use listing_text::list_table;
@@ -17,15 +18,15 @@ const CELLS: usize = 16384;
 // The bound of the rules for so many rows with 16 letters: 10 bytes for the head and 26 for each line.
 const TEXT: usize = 425994;
 
-// Lists a table: the first bytes of the text, as many as the result says, are the whole listing.
-fn list(table: &[u8], text: &mut [u8; TEXT]) -> usize
-    ensures { (result ≤ length text.new) × (take result text.new ≡ listing table.now 1024 16384 16384 1024 1024) }
+// The listing of a table, whole, written into the text's front.
+fn list<'a>(table: &[u8], text: &'a mut [u8; TEXT]) -> &'a [u8]
+    ensures { result.now ≡ listing table.now 1024 16384 16384 1024 1024 }
 {
     let mut targets = [0; CELLS];
     let mut priorities = [0; CELLS];
     let mut sources = [0; CAPACITY];
     let mut records = [0; CAPACITY];
-    list_table(
+    let length = list_table(
         table,
         CAPACITY,
         &mut targets,
@@ -33,30 +34,32 @@ fn list(table: &[u8], text: &mut [u8; TEXT]) -> usize
         &mut sources,
         &mut records,
         text,
-    )
+    );
+    &text[..length]
 }
 
-// Reads until the buffer is full or the input ends, and says how many bytes there are.
-fn read_full<R: Read>(reader: &mut R, buffer: &mut [u8]) -> io::Result<usize>
-    ensures { IfOk result (λ n. n ≤ length buffer.new) }
+// Reads until the buffer is full or the input ends, and gives the bytes read.
+fn read_full<'a, R: Read>(reader: &mut R, buffer: &'a mut [u8]) -> io::Result<&'a [u8]>
+    ensures bytes { IfOk result (λ read. Consumes (R.remaining reader.old) (R.remaining reader.new) read.now) }
+    ensures whole { IfOk result (λ read. length read.now < length buffer.old → IsAtEnd (R.remaining reader.new)) }
 {
     let mut done = 0;
-    // the bytes below `done` are read
+    // the bytes below `done` are read; a while: a read says how far it came
     while done < buffer.len() {
         let read = reader.read(&mut buffer[done..])?;
         if read == 0 {
-            return Ok(done);
+            break;
         }
         done += read;
     }
-    Ok(done)
+    Ok(&buffer[..done])
 }
 
 // One byte is read beyond the longest table, so that a longer input is refused for its length.
 fn main(rt: HostRuntime) -> io::Result<()> {
-    let mut table = [0; 3077];
+    let mut buffer = [0; 3077];
     let mut text = [0; TEXT];
-    let read = read_full(&mut rt.reader(), &mut table)?;
-    let length = list(&table[..read], &mut text);
-    io::writer(&rt).write_all(&text[..length])
+    let table = read_full(&mut rt.reader(), &mut buffer)?;
+    let listing = list(table, &mut text);
+    io::writer(&rt).write_all(listing)
 }

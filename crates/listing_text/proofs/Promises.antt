@@ -1,8 +1,7 @@
 -- From what the translator promises to what the listing promises.
 --     front_length, front_at            on success an array begins with what the translator found
 --     lines_same                        lines over arrays that agree where they are read
---     success                           what the translator promises, where its number is 0; then:
---     facts                             what holds of the table and the arrays
+--     facts                             what holds of the table and the arrays, where the translator's number is 0
 --     shown                             there is room in the arrays for the rows
 --     listing_done, done_reach          the listing is the head and the lines of the arrays as they are left, and is in reach
 --     listing_refused, refused_reach    on a refusal the listing is its line, and is in reach
@@ -54,9 +53,6 @@ lines_same n m ts ts' ps ps' ss ss' es es' ft fp fs fr =
     letters i l a h = let b : cell m i a < n * m = omega (arith, row_ends n m i l) in rw (ft (cell m i a) b, fp (cell m i a) b)
 
 -- ---- success
-pub success : {bs : List ℕ} {c : ℕ} {ts ts' ps ps' ss ss' es es' : List ℕ} {number rows : ℕ} → number ≡ 0 → TranslateSays bs c (row_arrays ts ps ss es) (row_arrays ts' ps' ss' es') number rows → TranslateSays bs c (row_arrays ts ps ss es) (row_arrays ts' ps' ss' es') 0 rows
-success z says = rw z at says
-
 module _ {bs : List ℕ} {c : ℕ} {ts ts' ps ps' ss ss' es es' : List ℕ} {rows : ℕ} (says : TranslateSays bs c (row_arrays ts ps ss es) (row_arrays ts' ps' ss' es') 0 rows) where
   cells : length (table_rows bs c) * (table_of bs).letters ≡ rows * (table_of bs).letters
   cells = rw says.count

@@ -1,23 +1,30 @@
 -- Texts that are written one after the other.
 --     wrote_none                          nothing
 --     wrote_both                          two texts, one after the other
---     wrote_length                        the array stays as long as it was
 --     reach_first, reach_then             where the whole is in reach, so is its first part, and from its end on the second
---     wrote_next, reach_next              of texts that are written one by one, the next one
---     wrote_next_byte, reach_next_byte    of bytes that are written one by one, the next one
-use mathlib.Core.Path.{◌≡◌, refl, sym, ap, ◌∙◌}
+--     wrote_next                          of texts that are written one by one, the next one
+--     writes_byte                         a writer that sets a byte and goes one place on
+--     writes_none, writes_both            a writer that writes nothing; one text, then another
+--     writes_next, writes_next_byte       of texts that a writer writes one by one, the next one; of bytes likewise
+--     writer_done                         the whole text of a writer that began at the first place
+--     writes_optional                     a field whose number may be missing, by a test
+use mathlib.Core.Path.{◌≡◌, refl, sym, ◌∙◌}
 use mathlib.Core.List.{List, [], ◌∷◌, ◌++◌}
-use Prim.Native.Nat.{ℕ, ◌+◌, ◌-◌, ◌<◌}
+use Prim.Native.Nat.{ℕ, ◌+◌, ◌<◌}
 use native.Mathlib.Numerals.{add-one}
 use native.Mathlib.Omega.{arith}
 use lib.ListN.{length, get_or, take, length-append}
-use lib.Seq.{length-sets, take-suc, length-take-le}
+use lib.Seq.{take-suc}
 use Rattle.rules.specs.Texts.{each}
-use Rattle.rules.proofs.Texts.{each_split, each_more, put_append}
-use Rattle.listing_text.specs.Writing.{InReach, Wrote}
+use Rattle.rules.proofs.Texts.{each_more, put_append}
+use Rattle.listing_text.specs.declared.text.Writer.{Writer}
+use Rattle.rules.specs.Listings.{field, optional}
+use Rattle.listing_text.specs.Writing.{InReach, Wrote, Writes, optional_field}
+use Rattle.std.specs.Bool.{then_some}
+use Rattle.std.proofs.Common.{Bool, true, false, not, min, set, Option}
 
 -- ---- one text after the other
-pub wrote_none : (at : ℕ) (o : List ℕ) → Wrote at [] o o at
+wrote_none : (at : ℕ) (o : List ℕ) → Wrote at [] o o at
 wrote_none at o = record { contents = refl; next = omega arith }
 
 pub wrote_both : {at r r' : ℕ} {s t o o' o'' : List ℕ} → Wrote at s o o' r → Wrote r t o' o'' r' → Wrote at (s ++ t) o o'' r'
@@ -27,31 +34,46 @@ wrote_both {at} {r} {r'} {s} {t} {o} {o'} {o''} v w =
       next = simp length-append (omega (arith, v.next, w.next));
     }
 
-pub wrote_length : {at r : ℕ} {t o o' : List ℕ} → Wrote at t o o' r → length o' ≡ length o
-wrote_length {at} {r} {t} {o} w = ap length w.contents ∙ length-sets o at t
-
-pub reach_first : {at : ℕ} (s t : List ℕ) → InReach at (s ++ t) → InReach at s
+reach_first : {at : ℕ} (s t : List ℕ) → InReach at (s ++ t) → InReach at s
 reach_first s t h = record { ends = omega (arith, h.ends, length-append s t) }
 
-pub reach_then : {at r : ℕ} {s o o' : List ℕ} (t : List ℕ) → InReach at (s ++ t) → Wrote at s o o' r → InReach r t
+reach_then : {at r : ℕ} {s o o' : List ℕ} (t : List ℕ) → InReach at (s ++ t) → Wrote at s o o' r → InReach r t
 reach_then {at} {r} {s} t h w = record { ends = omega (arith, h.ends, length-append s t, w.next) }
 
 -- ---- texts one by one
-module _ (g : ℕ → List ℕ) where
-  pub wrote_next : {at r r' i : ℕ} {o o' o'' : List ℕ} → Wrote at (each i 0 g) o o' r → Wrote r (g i) o' o'' r' → Wrote at (each (i + 1) 0 g) o o'' r'
-  wrote_next {at} {r} {r'} {i} v w = rw (each_more g i) (wrote_both v w)
+pub wrote_next : (g : ℕ → List ℕ) {at r r' i : ℕ} {o o' o'' : List ℕ} → Wrote at (each i 0 g) o o' r → Wrote r (g i) o' o'' r' → Wrote at (each (i + 1) 0 g) o o'' r'
+wrote_next g {at} {r} {r'} {i} v w = rw (each_more g i) (wrote_both v w)
 
-  pub reach_next : {at r m i : ℕ} {o o' : List ℕ} → InReach at (each m 0 g) → i < m → Wrote at (each i 0 g) o o' r → InReach r (g i)
-  reach_next {at} {r} {m} {i} h l w =
-      let e : m ≡ (i + 1) + (m - (i + 1)) = omega arith in
-      let all : InReach at (each ((i + 1) + (m - (i + 1))) 0 g) = rw e at h in
-      let some : InReach at (each (i + 1) 0 g) = reach_first _ _ (rw (each_split g (i + 1) (m - (i + 1)) 0) at all) in
-      reach_then (g i) (rw (each_more g i) at some) w
+-- ---- writers
+pub writes_byte : {w : Writer} {b r : ℕ} (v : Writer) → v.out.ghost_name ≡ w.out.ghost_name → v.out.now ≡ set w.out.now w.at b → r ≡ min (w.at + 1) 18446744073709551615
+    → Writes w (b ∷ []) (record v { at = r })
+writes_byte v same is next = record { array = same; written = λ h. record { contents = is; next = omega (arith, h.ends) } }
 
--- ---- bytes one by one
-pub wrote_next_byte : {at r r' i : ℕ} {o o' o'' : List ℕ} (bs : List ℕ) → i < length bs → Wrote at (take i bs) o o' r
-    → Wrote r (get_or bs i 0 ∷ []) o' o'' r' → Wrote at (take (i + 1) bs) o o'' r'
-wrote_next_byte bs l v w = rw (add-one, take-suc bs _ 0 l) (wrote_both v w)
+pub writes_none : (w : Writer) → Writes w [] w
+writes_none w = record { array = refl; written = λ _. wrote_none w.at w.out.now }
 
-pub reach_next_byte : {at r i x : ℕ} {o o' : List ℕ} (bs : List ℕ) → InReach at bs → i < length bs → Wrote at (take i bs) o o' r → InReach r (x ∷ [])
-reach_next_byte {at} {r} {i} bs h l w = record { ends = omega (arith, h.ends, w.next, length-take-le i bs (omega arith)) }
+pub writes_both : {w w' w'' : Writer} {s t : List ℕ} → Writes w s w' → Writes w' t w'' → Writes w (s ++ t) w''
+writes_both {s = s} {t = t} v u =
+    record {
+      array = u.array ∙ v.array;
+      written = λ h. let first = v.written (reach_first s t h) in wrote_both first (u.written (reach_then t h first));
+    }
+
+pub writes_next : {w w' w'' : Writer} {i : ℕ} (g : ℕ → List ℕ) → Writes w (each i 0 g) w' → Writes w' (g i) w'' → Writes w (each (i + 1) 0 g) w''
+writes_next {i = i} g v u = rw (each_more g i) (writes_both v u)
+
+pub writes_next_byte : {w w' w'' : Writer} {i : ℕ} (bs : List ℕ) → i < length bs → Writes w (take i bs) w' → Writes w' (get_or bs i 0 ∷ []) w'' → Writes w (take (i + 1) bs) w''
+writes_next_byte bs l v u = rw (add-one, take-suc bs _ 0 l) (writes_both v u)
+
+pub writer_done : {w v : Writer} {t o o' : List ℕ} {r : ℕ} → w.at ≡ 0 → w.out.now ≡ o → Writes w t v → InReach 0 t → o' ≡ v.out.now → r ≡ v.at → Wrote 0 t o o' r
+writer_done z is u h e f = let k : Wrote 0 _ _ _ _ = rw (z, is) at (u.written (rw z h)) in rw (e, f) k
+
+-- ---- fields
+optional_same : (none : Bool) (n end : ℕ) → optional_field (then_some (not none) n) end ≡ optional none n end
+unfolding field optional
+optional_same true n end = refl
+optional_same false n end = refl
+
+pub writes_optional : {w w' : Writer} {o : Option ℕ} (none : Bool) (n end : ℕ) → o ≡ then_some (not none) n → Writes w (optional_field o end) w'
+    → Writes w (optional none n end) w'
+writes_optional none n end is u = rw (is, optional_same none n end) at u

@@ -1,2 +1,3 @@
 -- What the contracts of the writers cite beyond the rules.
 pub mod Writing
+pub mod Lines

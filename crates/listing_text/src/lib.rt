@@ -3,7 +3,8 @@
 // `ListingSays` of the rules for every byte string and every array.
 #![tactic(auto)]
 
-use lines::{put_refusal, put_table};
+use lines::{Rows, put_refusal};
+use text::Writer;
 use translate::translate_table;
 
 mod lines;
@@ -26,14 +27,20 @@ pub fn list_table(
     ensures { ListingSays table.now capacity (row_arrays targets.old priorities.old sources.old records.old) (row_arrays targets.new priorities.new sources.new records.new) out.old out.new result }
 {
     let translation = translate_table(table, capacity, targets, priorities, sources, records);
-    let number = translation.number;
-    if number != 0 {
-        return put_refusal(out, number);
+    let mut text = Writer::new(out);
+    match translation {
+        Ok(count) => {
+            let rows = Rows {
+                count,
+                letters: usize::from(table[1]),
+                targets,
+                priorities,
+                sources,
+                records,
+            };
+            rows.put(&mut text, table[2]);
+        }
+        Err(refusal) => put_refusal(&mut text, refusal),
     }
-    let rows = translation.rows;
-    let letters = table[1] as usize;
-    let pairs = table[2];
-    put_table(
-        out, rows, letters, pairs, targets, priorities, sources, records,
-    )
+    text.len()
 }

@@ -1,73 +1,88 @@
-// Writers of text. Each writes its text into `out` from place `at` on, drops what falls past the end, and gives the place after the
-// text, whether it fitted or not; so writers follow one another, and over an empty array they only count.
-ghost use Rattle.std.specs.Prelude.{[], ◌∷◌};
-ghost use Rattle.rules.specs.Listings.{field, optional};
+// Text written into a lent array.
+ghost use Rattle.std.specs.Prelude.{◌≡◌, [], ◌∷◌};
+ghost use Rattle.rules.specs.Listings.{field};
 ghost use Rattle.rules.specs.Texts.{numeral};
-ghost use Rattle.listing_text.specs.Writing.{InReach, Wrote};
+ghost use Rattle.listing_text.specs.Writing.{optional_field, Writes};
 
-pub(crate) const BLANK: u8 = 32;
+pub(crate) const BLANK: u8 = b' ';
 
-pub(crate) const LINE_FEED: u8 = 10;
+pub(crate) const LINE_FEED: u8 = b'\n';
 
-const DASH: u8 = 45;
+const DASH: u8 = b'-';
 
-const ZERO: u8 = 48;
-
-// Writes one byte.
-fn put_byte(out: &mut [u8], at: usize, byte: u8) -> usize
-    requires { InReach at (byte ∷ []) }
-    ensures { Wrote at (byte ∷ []) out.old out.new result }
-{
-    if at < out.len() {
-        out[at] = byte;
-    }
-    at + 1
+// Each call goes on where the last one ended. What falls past the end of the array is dropped, but counted; so a writer over an empty
+// array only counts.
+#[derive(Drop)]
+pub(crate) struct Writer<'a> {
+    out: &'a mut [u8],
+    at: usize,
 }
 
-// Writes some bytes.
-pub(crate) fn put_bytes(out: &mut [u8], at: usize, bytes: &[u8]) -> usize
-    requires { InReach at bytes.now }
-    ensures { Wrote at bytes.now out.old out.new result }
-{
-    let mut next = at;
-    let mut i = 0;
-    // the first i bytes are written
-    while i < bytes.len() {
-        next = put_byte(out, next, bytes[i]);
-        i += 1;
+impl<'a> Writer<'a> {
+    // A writer at the first place of an array.
+    pub(crate) fn new(out: &'a mut [u8]) -> Writer<'a>
+        ensures array { result.out.ghost_name ≡ out.entry.ghost_name }
+        ensures bytes { result.out.now ≡ out.old }
+        ensures first { result.at ≡ 0 }
+    {
+        Writer { out, at: 0 }
     }
-    next
-}
 
-// Writes a number in decimal: the digits before the last, then the last.
-fn put_numeral(out: &mut [u8], at: usize, n: u32) -> usize
-    requires { InReach at (numeral n) }
-    ensures { Wrote at (numeral n) out.old out.new result }
-{
-    if n < 10 {
-        return put_byte(out, at, ZERO + n as u8);
+    // How long the text is, whether it fitted or not.
+    pub(crate) fn len(&self) -> usize
+        ensures { result ≡ self.now.at }
+    {
+        self.at
     }
-    let last = put_numeral(out, at, n / 10);
-    put_byte(out, last, ZERO + (n % 10) as u8)
-}
 
-// Writes a number and the byte that ends its field.
-pub(crate) fn put_field(out: &mut [u8], at: usize, n: u32, end: u8) -> usize
-    requires { InReach at (field n end) }
-    ensures { Wrote at (field n end) out.old out.new result }
-{
-    let next = put_numeral(out, at, n);
-    put_byte(out, next, end)
-}
-
-// Writes a field whose number may be missing.
-pub(crate) fn put_optional(out: &mut [u8], at: usize, none: bool, n: u32, end: u8) -> usize
-    requires { InReach at (optional none n end) }
-    ensures { Wrote at (optional none n end) out.old out.new result }
-{
-    if none {
-        let next = put_byte(out, at, DASH);
-        return put_byte(out, next, end);
+    // Writes one byte.
+    fn byte(&mut self, byte: u8)
+        ensures { Writes self.old (byte ∷ []) self.new }
+    {
+        let at = self.at;
+        if at < self.out.len() {
+            self.out[at] = byte;
+        }
+        self.at = at.saturating_add(1);
     }
-    put_field(out, at, n, end)
+
+    // Writes some bytes.
+    pub(crate) fn bytes(&mut self, bytes: &[u8])
+        ensures { Writes self.old bytes.now self.new }
+    {
+        // the bytes before this one are written
+        for byte in bytes {
+            self.byte(*byte);
+        }
+    }
+
+    // Writes a number in decimal: the digits before the last, then the last.
+    // By hand: `write!` promises what it wrote only where it answers `Ok`, and it does not promise that answer.
+    fn numeral(&mut self, n: u32)
+        ensures { Writes self.old (numeral n) self.new }
+    {
+        if n < 10 {
+            return self.byte(b'0' + n as u8);
+        }
+        self.numeral(n / 10);
+        self.byte(b'0' + (n % 10) as u8);
+    }
+
+    // Writes a number and the byte that ends its field.
+    pub(crate) fn field(&mut self, n: u32, end: u8)
+        ensures { Writes self.old (field n end) self.new }
+    {
+        self.numeral(n);
+        self.byte(end);
+    }
+
+    // Writes a field whose number may be missing: a dash in its place.
+    pub(crate) fn optional(&mut self, n: Option<u32>, end: u8)
+        ensures { Writes self.old (optional_field n end) self.new }
+    {
+        match n {
+            Some(n) => self.field(n, end),
+            None => self.bytes(&[DASH, end]),
+        }
+    }
 }

@@ -10,7 +10,6 @@
 --     places_length, places_at_lem, places_below        how many places are read, what they hold, and that it is below base
 --     position_within                                   a position that is not refused is one of the record
 --     no_pair_at, pair_shifted, pair_below              the pair at a position: none, as a shift finds it, and below base
---     rising_at, rising_below                           the numbers from 1 on
 --     places_packed, pairs_packed, packed_small         the code of an ordering holds it, and nothing else
 --     moved_packed, priority_packed                     a move and a priority are the same for the places of that code
 --     marked_shifted, marked_masked                     a pair is in a set, as a shift finds it, and as a mask with its bit alone
@@ -29,12 +28,11 @@ use lib.ListN.{length, get_or, take, drop, replicate, length-append, length-drop
 use lib.Pow.{pow-add, shr-shr, pow_mono}
 use lib.Seq.{drop-cons}
 use borrow.Author.Tests.{eqb-true, eqb-false, eq-eqb, ne_eqb, ltb-true, ltb-false}
-use Rattle.rules.specs.Basics.{pick, any, is_in, keep, tabulate}
+use Rattle.rules.specs.Basics.{pick, any, is_in, keep}
 use Rattle.rules.specs.Records.{Marks, as_they_stood, moved, priority_with, priority_from, priority, decimal_from}
 use Rattle.rules.proofs.Bools.{by, clash, or_cases, or_left, or_right, or_none}
 use Rattle.rules.proofs.Bits.{bit_masked, one_shifted}
 use Rattle.rules.proofs.Sets.{any_append, any_find}
-use Rattle.rules.proofs.Arrays.{tabulate_at}
 use Rattle.rules.proofs.Appearance.{kept_length, keep_append, keep_free, keep_hold, others_all, moved_length}
 use Rattle.rules.proofs.RabinTables.{stood_rearranges}
 use Rattle.records.specs.Packed.{limit, base, is_pair, is_marked, packed, places_of, places, pairs_in}
@@ -179,15 +177,6 @@ module _ (n w p : ℕ) where
 
   pub pair_below : get_or (0 ∷ places_of n w) p 0 < base
   pair_below = by (eqb p 0 || ltb n p) (λ e. omega (arith, no_pair_at e)) (λ e. omega (arith, pair_shifted e))
-
--- the pairs of a rising record
-pub rising_at : (n p : ℕ) → p ≤ n → p ≡ get_or (0 ∷ tabulate n 1 (λ i. i)) p 0
-rising_at n p l = omega (arith, tabulate_at (λ i. i) (suc n) 0 p 0 (omega arith))
-
-pub rising_below : (n p : ℕ) → p + n ≤ base → AllBelow (tabulate n p (λ i. i))
-rising_below zero p l i h = absurd (false≢true h)
-rising_below (suc n) p l i h =
-    or_cases (eqb i p) (is_in i (tabulate n (suc p) (λ j. j))) h (λ e. omega (arith, eqb-true i p e)) (rising_below n (suc p) (omega arith) i)
 
 places_none : (n : ℕ) → places_of n 0 ≡ replicate n 0
 places_none zero = refl

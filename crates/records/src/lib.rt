@@ -22,6 +22,9 @@ pub struct Record {
     pub code: u32,
 }
 
+// The record of all pairs, rising: in octal, each place is a digit, the first place the last one.
+const ALL_RISING: u32 = 0o654321;
+
 impl PairNumber {
     // The pair is in the set: bit i − 1 for pair i.
     pub fn is_in(self, mask: u8) -> bool
@@ -42,17 +45,12 @@ impl Record {
     pub fn rising(mask: u8) -> Self
         ensures { result.code ≡ packed (keep (is_marked mask) (tabulate limit 1 (λ i. i))) }
     {
-        let mut code = 0;
-        let mut i = Record::LIMIT;
-        // code has the pairs of the set above i, rising
-        while 0 < i {
-            code = with_pair(code, PairNumber(i), PairNumber(i).is_in(mask));
-            i -= 1;
-        }
+        let all = Record { code: ALL_RISING };
+        let code = all.front(mask);
         Record { code }
     }
 
-    // The pair at a position; 0 where there is none.
+    // The pair at a position; 0 where there is none, and no Option: it is promised for any position, and a place that is not used holds 0 itself.
     pub fn pair_at(self, at: Position) -> PairNumber
         ensures { result.0 ≡ get_or (0 ∷ places self.code) at.0 0 }
     {
@@ -70,14 +68,12 @@ impl Record {
         ensures { result ≡ priority (marks_by prohibited required) (places self.code) }
     {
         let mut best = 1;
-        let mut p = 1;
         // best is the priority by the positions below p
-        while p <= Record::LIMIT {
+        for p in 1..=Record::LIMIT {
             let pair = self.pair_at(Position(p));
             let odd = pair.is_in(prohibited);
             let even = pair.is_in(required);
             best = decided(best, Position(p), odd, even);
-            p += 1;
         }
         best
     }
@@ -96,12 +92,12 @@ impl Record {
         ensures { result ≡ packed (keep (is_marked mask) (places self.code)) }
     {
         let mut code = 0;
-        let mut p = Record::LIMIT;
         // code has the pairs of the set at the positions above p
-        while 0 < p {
+        for p in (1..=Record::LIMIT).rev() {
             let pair = self.pair_at(Position(p));
-            code = with_pair(code, pair, pair.is_in(mask));
-            p -= 1;
+            if pair.is_in(mask) {
+                code = with_first(code, pair);
+            }
         }
         code
     }
@@ -111,12 +107,12 @@ impl Record {
         ensures { result ≡ base ^ length (keep (is_marked mask) (places self.code)) * packed (keep (λ i. not (is_marked mask i)) (places self.code)) }
     {
         let mut code = 0;
-        let mut p = 1;
         // the last places of code have the pairs at the positions below p that are not in the set
-        while p <= Record::LIMIT {
+        for p in 1..=Record::LIMIT {
             let pair = self.pair_at(Position(p));
-            code = with_last(code, pair, !pair.is_in(mask));
-            p += 1;
+            if !pair.is_in(mask) {
+                code = with_last(code, pair);
+            }
         }
         code
     }
@@ -126,11 +122,9 @@ impl Record {
         ensures { result ≡ decimal (pairs_in self.code) }
     {
         let mut number = 0;
-        let mut p = 1;
         // number is that of the pairs at the positions below p
-        while p <= Record::LIMIT {
+        for p in 1..=Record::LIMIT {
             number = with_digit(number, self.pair_at(Position(p)));
-            p += 1;
         }
         number
     }
@@ -147,24 +141,20 @@ fn decided(best: u8, at: Position, odd: bool, even: bool) -> u8
     if even { 2 * at.0 } else { best }
 }
 
-// The code with the pair in front, where it goes there.
-fn with_pair(code: u32, pair: PairNumber, goes: bool) -> u32
+// The code with the pair in front. The pair is one that a place can hold, here and below: `PairNumber` takes any byte, since `is_in` promises for each.
+fn with_first(code: u32, pair: PairNumber) -> u32
     requires { (code < 32768) × (pair.0 < base) }
-    ensures { result ≡ pick goes (pair.0 + base * code) code }
+    ensures { result ≡ pair.0 + base * code }
 {
-    if goes { pair.0 as u32 + 8 * code } else { code }
+    pair.0 as u32 + 8 * code
 }
 
-// The code with the pair in the last place, the others one place nearer to the front, where it goes there.
-fn with_last(code: u32, pair: PairNumber, goes: bool) -> u32
+// The code with the pair in the last place, the others one place nearer to the front.
+fn with_last(code: u32, pair: PairNumber) -> u32
     requires { (code < 262144) × (pair.0 < base) }
-    ensures { result ≡ pick goes (code / base + 32768 * pair.0) code }
+    ensures { result ≡ code / base + 32768 * pair.0 }
 {
-    if goes {
-        code / 8 + 32768 * pair.0 as u32
-    } else {
-        code
-    }
+    code / 8 + 32768 * pair.0 as u32
 }
 
 // The number with the pair as one more digit; the number itself for no pair.

@@ -2,7 +2,7 @@
 --     get_d_any                                                     below the length the default is not looked at
 --     tabulate_length, tabulate_at, tabulate_last, tabulate_same    a tabulated list
 --     cell_before, cell_same, cell_split                            a place is the cell of one row and one letter only
---     cell_within, row_within, row_ends                             a cell, the cells before a row and those of a row are among the cells of all rows
+--     cell_within, row_ends                                         a cell, and the cells of a row, are among the cells of all rows
 --     joined_length, joined_at                                      lists of one length, joined: the cell of row i and letter a is number i · m + a
 --     cells_length, cells_at                                        one number for each letter of each row, joined
 --     tabulate_none, joined_none                                    where nothing passes a test, in each place or in each list
@@ -11,7 +11,7 @@ use mathlib.Core.Path.{◌≡◌, refl, sym, ap, ◌∙◌}
 use mathlib.Core.Bool.{Bool, false}
 use mathlib.Core.List.{List, [], ◌∷◌, ◌++◌, append_assoc, map}
 use Prim.Native.Nat.{ℕ, zero, suc, ◌+◌, ◌*◌, ◌/◌, ◌%◌, ◌≤◌, ◌<◌}
-use native.Mathlib.Nat.{suc-mul, zero-mul, mul-le-mul, mul-le-mul_right, le_refl, le_of_lt, div-add-mod', div-lt_iff_lt-mul, mod-lt}
+use native.Mathlib.Nat.{suc-mul, zero-mul, mul-le-mul, mul-le-mul_right, le_refl, div-add-mod', div-lt_iff_lt-mul, mod-lt}
 use native.Mathlib.Omega.{arith}
 use lib.Dec.{ltb}
 use lib.ListN.{length, get_or, length-append, get_or-append}
@@ -29,9 +29,6 @@ get_d_any (x ∷ xs) (suc i) d e l = get_d_any xs i d e (omega arith)
 
 pub cell_within : (n m q a : ℕ) → q < n → a < m → cell m q a < n * m
 cell_within n m q a l r = let h : suc q * m ≤ n * m = mul-le-mul l (le_refl m) in omega (arith, suc-mul q m)
-
-pub row_within : (n m q : ℕ) → q < n → q * m ≤ n * m
-row_within n m q l = mul-le-mul (le_of_lt l) (le_refl m)
 
 pub row_ends : (n m i : ℕ) → i < n → cell m i m ≤ n * m
 row_ends n m i l = let rows : suc i * m ≤ n * m = mul-le-mul_right m l in omega (arith, suc-mul i m)

@@ -9,7 +9,6 @@
 --                                                           after another, and past more
 --     over_beyond                                           the same of an array with other contents at its front
 --     cells_over, front_over                                an array with a number for each letter of each row at its front, or with what its first places are
---     cleared_none, cleared_more                            nothing is cleared yet; one place more
 --     padded_is, cleared_is, filled_is                      an array with contents at its front and zeros after them
 use mathlib.Core.Path.{◌≡◌, refl, sym, ap, ◌∙◌}
 use mathlib.Core.List.{List, [], ◌∷◌, ◌++◌, append-nil}
@@ -130,18 +129,6 @@ front_over r old new rs room e rest =
     size = ap length (sym e) ∙ length-take-le r new (omega (arith, rest.size))
 
 -- ---- arrays that are cleared from one place on
-pub cleared_none : (i : ℕ) (old : List ℕ) → Cleared i i old old
-cleared_none i old = record { size = refl; front = λ j l. refl; zeros = λ j l u. absurd (omega arith); rest = λ j l. refl }
-
-pub cleared_more : (i k : ℕ) (old new : List ℕ) → i ≤ k → k < length old → Cleared i k old new → Cleared i (k + 1) old (set new k 0)
-cleared_more i k old new l r f =
-    record {
-      size = length-set new k 0 ∙ f.size;
-      front = λ j b. get_or-set_other new k j 0 0 (λ e. omega arith) ∙ f.front j b;
-      zeros = λ j a b. by (eqb j k) (λ e. rw (eqb-true j k e) (get_or-set_same new k 0 0 (rw f.size r))) (λ e. get_or-set_other new k j 0 0 (eqb-false j k e) ∙ f.zeros j a (omega (arith, eqb-false j k e)));
-      rest = λ j b. get_or-set_other new k j 0 0 (λ e. omega arith) ∙ f.rest j (omega arith);
-    }
-
 zeros_behind : (xs : List ℕ) (j i : ℕ) → length xs ≤ i → get_or (xs ++ replicate j 0) i 0 ≡ 0
 zeros_behind [] j i l = zeros_at j i
 zeros_behind (x ∷ xs) j zero l = absurd (omega arith)

@@ -19,6 +19,7 @@ pub mod Reading
 pub mod Filling
 pub mod Steps
 pub mod Refusals
+pub mod Numbered
 pub mod Demand3
 pub mod RabinTables
 pub mod Numbers

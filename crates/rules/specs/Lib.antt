@@ -3,6 +3,7 @@ pub mod Basics
 pub mod Arrays
 pub mod Limits
 pub mod Refusals
+pub mod Numbered
 pub mod Systems
 pub mod Runs
 pub mod Answers

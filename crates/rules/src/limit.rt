@@ -1,4 +1,4 @@
-// The numbers that `specs/Limits.antt` names.
+// The numbers that `specs/Limits.antt` names; the rules fix each, also those of a missing transition.
 pub const MAX_STATES: u8 = 64;
 
 pub const MAX_LETTERS: u8 = 16;

@@ -1,5 +1,4 @@
 -- A well-formed table, laid out: what its arrays say of its system and of what counts.
---     marks_rest                        the rest of the bytes are the marks
 --     targets_written, marks_written    what is laid out of the parts of the bytes is the table's
 --     targets_laid, marks_laid          an array with the table's targets or marks at its front, by state and letter
 --     laid_go, go_laid                  the system in the array of targets has the table's transitions, and no others
@@ -13,12 +12,12 @@ use Prim.Native.Nat.{ℕ, zero, suc, ◌+◌, ◌-◌, ◌*◌, ◌/◌, ◌^◌
 use native.Mathlib.Nat.{lt_of_lt_of_le}
 use native.Mathlib.Omega.{arith}
 use lib.Dec.{eqb}
-use lib.ListN.{length, get_or, take, drop}
+use lib.ListN.{length, get_or}
 use lib.Pow.{pow_mono}
 use borrow.Author.Tests.{ne_eqb}
 use Rattle.rules.specs.Basics.{tabulate, as_bits}
 use Rattle.rules.specs.Judges.{parity_system}
-use Rattle.rules.specs.Limits.{header_size, no_state, no_row}
+use Rattle.rules.specs.Limits.{no_state, no_row}
 use Rattle.rules.specs.Says.{over}
 use Rattle.rules.specs.Systems.{System, component_of, some_within, cell}
 use Rattle.rules.specs.Tables.{Table, table_of, system_of, target_of, prohibited_byte, required_byte, requires, counts}
@@ -70,9 +69,6 @@ module _ (bs : List ℕ) (formed : WellFormed bs) where
   pub targets_written : (part old ts : List ℕ) → part ≡ t.targets → ts ≡ over (tabulate (length part) 0 (λ c. wide_target (get_or part c 0))) old
       → ts ≡ over (target_cells t) old
   targets_written part old ts e h = h ∙ ap (λ (xs : List ℕ). over xs old) (wide_list part t.targets (n * m) e (target_count bs formed))
-
-  pub marks_rest : take (length bs - (header_size + n * m)) (drop (header_size + n * m) bs) ≡ t.marks
-  marks_rest = let e : length bs - (header_size + n * m) ≡ 2 * (n * m) = omega (arith, known.exact) in rw e
 
   pub marks_written : (part old ms : List ℕ) → part ≡ t.marks
       → ms ≡ over (tabulate (n * m) 0 (λ c. get_or part (suc (2 * c)) 0 * 256 + get_or part (2 * c) 0)) old → ms ≡ over (mark_cells t) old

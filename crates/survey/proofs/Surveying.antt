@@ -1,7 +1,7 @@
 -- Turns of the survey's loops and what they come to, for any homes and any tests on transitions.
 --     listed                          an array with a list at its front
 --     CountedBelow, counted_more      the tests that the transitions by the letters below a pass which stay, one letter more
---     required_none, required_more    what some cell requires, one cell more
+--     required_more                   what some cell requires, one cell more
 --     gathered_none, gathered_more    the tests passed at each home, one state more
 --     gathered_past, gathered_full    a state that is left out, and one of a home that has all that any transition passes
 --     gathered_all                    the tests passed at a state's home
@@ -50,9 +50,6 @@ counted_more stays b q a found marks h f i =
   where
     kept : bit i (pick (stays q a) marks 0) ≡ stays q a && b i q a
     kept = by (stays q a) (λ e. rw e (f i)) (λ e. rw e (bit_none i))
-
-pub required_none : (ms : List ℕ) → RequiredBelow ms 0 0
-required_none ms c i l h = absurd (omega arith)
 
 pub required_more : (ms : List ℕ) (k all : ℕ) → RequiredBelow ms k all → RequiredBelow ms (k + 1) (bit_or all (get_or ms k 0 / 256))
 required_more ms k all f c i l h =

@@ -1,10 +1,11 @@
 -- A well-formed table through the calls of this crate.
 --     lay_fault_lem, many_cells                  with room for its cells, laying out refuses nothing but the table; and such room for any table
 --     LaidTable t n m start ts ms, laid_table    what is laid out of it: its sizes and its start, and its cells in the arrays
+--     laid_formed                                where something is laid out, the bytes are a well-formed table
 --     laid_fit                                   there is room for the cells that are laid out where there is for the table's
 --     surveyed                                   what a survey of them leaves
 --     surveyed_reached                           what a survey of those that the start reaches leaves
-use mathlib.Core.Path.{◌≡◌, refl, ap₂, ◌∙◌}
+use mathlib.Core.Path.{◌≡◌, refl, sym, ap₂, ◌∙◌}
 use mathlib.Core.Bool.{Bool, true}
 use mathlib.Core.List.{List}
 use Prim.Native.Nat.{ℕ, zero, suc, ◌*◌, ◌≤◌}
@@ -59,6 +60,10 @@ laid_table {bs} {ts} {ts'} {ms} {ms'} formed z kt km lt lm s =
       targets = targets_laid bs formed ts ts' (omega (arith, lt formed)) (rw z at s.target_array);
       marks = marks_laid bs formed ms ms' (omega (arith, lm formed)) (rw z at s.mark_array);
     }
+
+-- what is laid out is a well-formed table
+pub laid_formed : {bs ts ts' ms ms' : List ℕ} {n m start : ℕ} → HasCells bs (length ts) → HasCells bs (length ms) → LaySays bs ts ts' ms ms' 0 n m start → WellFormed bs
+laid_formed {bs} {ts} {ts'} {ms} lt lm s = sym (s.refusal ∙ lay_fault_lem bs (length ts) (length ms) lt lm)
 
 module _ {t : Table} {states letters start : ℕ} {ts ms : List ℕ} (good : IsTable t) (x : LaidTable t states letters start ts ms) where
   abbrev n : ℕ

@@ -1,139 +1,134 @@
 // Which pairs count in each component, from the laid-out cells and the states' homes: numbers that are the same for the states of a component
 // and for no others, and no state for a state that is left out. Each cell is looked at once at most.
-ghost use Rattle.std.specs.Prelude.{◌≡◌, ◌&&◌, ℕ, ◌+◌, ◌*◌, ◌/◌, ◌<◌, ◌≤◌, eqb, ltb, length, get_or};
-ghost use Rattle.rules.specs.Basics.{pick, bit, any_below, tabulate};
+ghost use Rattle.std.specs.Prelude.{◌≡◌, ◌&&◌, ℕ, ◌+◌, ◌/◌, ◌<◌, ◌≤◌, eqb, ltb, length, get_or};
+ghost use Rattle.rules.specs.Basics.{pick, bit, tabulate};
 ghost use Rattle.rules.specs.Says.{over};
-ghost use Rattle.survey.specs.Layouts.{required_in};
-ghost use Rattle.survey.specs.Parts.{stays_in, RequiredBelow, GatheredIn, gathered_in, CellsRoom};
+ghost use Rattle.survey.specs.Parts.{CellsRoom};
 
 use rules::limit::MAX_STATES;
 
-// The target is a state, and its home is `home`.
-fn is_home(homes: &[u16], n: usize, home: u16, target: u16) -> bool
-    requires { n ≤ length homes.now }
-    ensures { result ≡ ltb target n && eqb (get_or homes.now target 0) home }
+// The required marks of a transition.
+fn required(marks: u16) -> u8
+    ensures { result ≡ marks / 256 }
 {
-    let target = target as usize;
-    if target < n {
-        homes[target] == home
-    } else {
-        false
-    }
+    (marks / 256) as u8
 }
 
-// The required marks of a transition where it stays inside, else none.
+// The same where it stays inside, else none. A number for both, and no branch around the caller's `|=`: whether a transition stays is hard to
+// predict, and with the branch forecasts of tables with 2 letters took up to 1.3 times as long (1,214 ns for 914).
 fn kept(marks: u16, stays: bool) -> u8
     ensures { result ≡ pick stays (marks / 256) 0 }
 {
-    if stays { (marks / 256) as u8 } else { 0 }
+    if stays { required(marks) } else { 0 }
 }
 
-// The pairs that the transitions of q make count which stay at its home.
-fn pairs_of_state(n: usize, m: usize, targets: &[u16], marks: &[u16], homes: &[u16], q: usize) -> u8
-    requires { CellsRoom n m targets.now marks.now homes.now × (q < n) }
-    ensures { (i : ℕ) → bit i result ≡ any_below m (λ a. stays_in n m targets.now homes.now q a && required_in m marks.now i q a) }
-{
-    let first = q * m;
-    let home = homes[q];
-    let mut found = 0;
-    let mut a = 0;
-    // found has the pairs that the letters below a make count
-    while a < m {
-        let stays = is_home(homes, n, home, targets[first + a]);
-        found = found | kept(marks[first + a], stays);
-        a += 1;
+// For each home a set of pairs.
+type Sets = [u8; MAX_STATES as usize];
+
+// Laid-out cells, and each state's home.
+#[derive(Clone, Copy)]
+pub(crate) struct Cells<'a> {
+    pub states: usize,
+    pub letters: usize,
+    pub targets: &'a [u16],
+    pub marks: &'a [u16],
+    pub homes: &'a [u16],
+    pub ghost room: { CellsRoom states letters targets.now marks.now homes.now },
+}
+
+impl<'a> Cells<'a> {
+    ghost use Rattle.survey.specs.Cells.{RequiredAll, counts_at, GatheredAt, set_at, counted_at};
+
+    // The target is a state, and its home is `home`.
+    fn is_home(self, home: u16, target: u16) -> bool
+        ensures { result ≡ ltb target self.entry.states && eqb (get_or self.entry.homes.now target 0) home }
+    {
+        let target = usize::from(target);
+        target < self.states && self.homes[target] == home
     }
-    found
-}
 
-// The pairs that some cell requires.
-fn required_somewhere(marks: &[u16], cells: usize) -> u8
-    requires { cells ≤ length marks.now }
-    ensures { RequiredBelow marks.now cells result }
-{
-    let mut all = 0;
-    let mut c = 0;
-    // all has the pairs that the cells below c require
-    while c < cells {
-        all = all | kept(marks[c], true);
-        c += 1;
+    // The pairs that the transitions of q make count which stay at its home.
+    fn pairs_of_state(self, q: usize) -> u8
+        requires { q < self.states }
+        ensures { (i : ℕ) → bit i result ≡ counts_at self.entry q i }
+    {
+        let first = q * self.letters;
+        let end = first + self.letters;
+        let home = self.homes[q];
+        let mut found = 0;
+        // found has the pairs that the letters so far make count
+        for (target, marks) in self.targets[first..end].iter().zip(&self.marks[first..end]) {
+            found |= kept(*marks, self.is_home(home, *target));
+        }
+        found
     }
-    all
-}
 
-// Gathers what state q makes count. Where all counts that any cell requires, it needs no look.
-fn gather_state(
-    n: usize,
-    m: usize,
-    targets: &[u16],
-    marks: &[u16],
-    homes: &[u16],
-    q: usize,
-    all: u8,
-    sets: &mut [u8],
-)
-    requires { CellsRoom n m targets.now marks.now homes.now × (n ≤ length sets.old) × (q < n) × RequiredBelow marks.now (n * m) all × GatheredIn n m targets.now marks.now homes.now q sets.old }
-    ensures { GatheredIn n m targets.now marks.now homes.now (q + 1) sets.new }
-{
-    let home = homes[q] as usize;
-    if n <= home {
-        return;
+    // The pairs that some cell requires.
+    fn required_somewhere(self) -> u8
+        ensures { RequiredAll self.entry result }
+    {
+        let cells = self.states * self.letters;
+        let mut all = 0;
+        // all has the pairs that the cells so far require
+        for marks in &self.marks[..cells] {
+            all |= required(*marks);
+        }
+        all
     }
-    if sets[home] == all {
-        return;
+
+    // Gathers what state q makes count. Where all counts that any cell requires, it needs no look.
+    fn gather_state(self, q: usize, all: u8, sets: &mut Sets)
+        requires { (q < self.states) × RequiredAll self all × GatheredAt self q sets.old }
+        ensures { GatheredAt self.entry (q + 1) sets.new }
+    {
+        let home = usize::from(self.homes[q]);
+        if self.states <= home {
+            return;
+        }
+        if sets[home] == all {
+            return;
+        }
+        sets[home] |= self.pairs_of_state(q);
     }
-    sets[home] = sets[home] | pairs_of_state(n, m, targets, marks, homes, q);
-}
 
-// For each home: the pairs that count there.
-fn gather(n: usize, m: usize, targets: &[u16], marks: &[u16], homes: &[u16], sets: &mut [u8])
-    requires { CellsRoom n m targets.now marks.now homes.now × (n ≤ length sets.old) × GatheredIn n m targets.now marks.now homes.now 0 sets.old }
-    ensures { GatheredIn n m targets.now marks.now homes.now n sets.new }
-{
-    let all = required_somewhere(marks, n * m);
-    let mut q = 0;
-    // what the states below q make count is gathered
-    while q < n {
-        gather_state(n, m, targets, marks, homes, q, all, sets);
-        q += 1;
+    // For each home: the pairs that count there.
+    fn gather(self, sets: &mut Sets)
+        requires { GatheredAt self 0 sets.old }
+        ensures { GatheredAt self.entry self.entry.states sets.new }
+    {
+        let all = self.required_somewhere();
+        // what the states below q make count is gathered
+        for q in 0..self.states {
+            self.gather_state(q, all, sets);
+        }
     }
-}
 
-// The entry of a home, none where it is no state.
-fn set_of(sets: &[u8], n: usize, home: u16) -> u8
-    requires { n ≤ length sets.now }
-    ensures { result ≡ pick (ltb home n) (get_or sets.now home 0) 0 }
-{
-    let home = home as usize;
-    if home < n { sets[home] } else { 0 }
-}
-
-// Each state's entry is its home's.
-fn spread(homes: &[u16], sets: &[u8], n: usize, out: &mut [u8])
-    requires { (n ≤ length homes.now) × (n ≤ length sets.now) × (n ≤ length out.old) }
-    ensures { out.new ≡ over (tabulate n 0 (λ q. pick (ltb (get_or homes.now q 0) n) (get_or sets.now (get_or homes.now q 0) 0) 0)) out.old }
-{
-    let mut q = 0;
-    // the entries of the states below q are written
-    while q < n {
-        out[q] = set_of(sets, n, homes[q]);
-        q += 1;
+    // The set of q's home, none where that is no state.
+    fn set_of(self, sets: &Sets, q: usize) -> u8
+        requires { q < self.states }
+        ensures { result ≡ set_at self.entry sets.now q }
+    {
+        let home = usize::from(self.homes[q]);
+        if home < self.states { sets[home] } else { 0 }
     }
-}
 
-// The pairs that count at each state's home, at the front of an array that has room.
-pub(crate) fn write_counted(
-    n: usize,
-    m: usize,
-    targets: &[u16],
-    marks: &[u16],
-    homes: &[u16],
-    out: &mut [u8],
-)
-    requires { CellsRoom n m targets.now marks.now homes.now × (n ≤ length out.old) }
-    ensures { out.new ≡ over (tabulate n 0 (gathered_in n m targets.now marks.now homes.now)) out.old }
-{
-    let mut sets = [0; MAX_STATES as usize];
-    gather(n, m, targets, marks, homes, &mut sets);
-    spread(homes, &sets, n, out);
+    // Each state's entry is its home's set.
+    fn spread(self, sets: &Sets, out: &mut [u8])
+        requires { self.states ≤ length out.old }
+        ensures { out.new ≡ over (tabulate self.entry.states 0 (set_at self.entry sets.now)) out.old }
+    {
+        for q in 0..self.states {
+            out[q] = self.set_of(sets, q);
+        }
+    }
+
+    // The pairs that count at each state's home, at the front of an array that has room.
+    pub(crate) fn write_counted(self, out: &mut [u8])
+        requires { self.states ≤ length out.old }
+        ensures { out.new ≡ over (tabulate self.entry.states 0 (counted_at self.entry)) out.old }
+    {
+        let mut sets = [0; MAX_STATES as usize];
+        self.gather(&mut sets);
+        self.spread(&sets, out);
+    }
 }

@@ -14,7 +14,7 @@ fn wide_target(target: u8) -> u16
     if target == NO_STATE {
         NO_ROW
     } else {
-        target as u16
+        u16::from(target)
     }
 }
 
@@ -23,11 +23,8 @@ pub(crate) fn lay_targets(bytes: &[u8], targets: &mut [u16])
     requires { length bytes.now ≤ length targets.old }
     ensures { targets.new ≡ over (tabulate (length bytes.now) 0 (λ c. wide_target (get_or bytes.now c 0))) targets.old }
 {
-    let mut c = 0;
-    // the targets of the cells below c are laid out
-    while c < bytes.len() {
-        targets[c] = wide_target(bytes[c]);
-        c += 1;
+    for (c, target) in bytes.iter().enumerate() {
+        targets[c] = wide_target(*target);
     }
 }
 
@@ -36,10 +33,7 @@ pub(crate) fn lay_marks(bytes: &[u8], cells: usize, marks: &mut [u16])
     requires { (2 * cells ≤ length bytes.now) × (cells ≤ length marks.old) }
     ensures { marks.new ≡ over (tabulate cells 0 (λ c. get_or bytes.now (suc (2 * c)) 0 * 256 + get_or bytes.now (2 * c) 0)) marks.old }
 {
-    let mut c = 0;
-    // the marks of the cells below c are laid out
-    while c < cells {
-        marks[c] = mask_of(bytes[2 * c], bytes[2 * c + 1]);
-        c += 1;
+    for (c, pair) in bytes[..2 * cells].chunks_exact(2).enumerate() {
+        marks[c] = mask_of(pair[0], pair[1]);
     }
 }

@@ -1,13 +1,13 @@
 -- The refusals of a table in their order: each is given where its test is the first that holds.
---     targets_part, marks_part        the parts of the bytes that the cells are; parts_match: two marks for each target
---     header_short .. cells_judged    one law for each test, from what the tests before it left
+--     targets_part, marks_part        the parts of the bytes that the cells are
+--     header_short .. cells_judged    one law for each test, from what the tests before it left; cells_judged for what both tests of the cells find
 use mathlib.Core.Path.{◌≡◌}
-use mathlib.Core.Bool.{true, false}
+use mathlib.Core.Bool.{Bool, true, false}
 use mathlib.Core.List.{List}
-use Prim.Native.Nat.{ℕ, ◌+◌, ◌-◌, ◌*◌, ◌≤◌}
+use Prim.Native.Nat.{ℕ, ◌+◌, ◌-◌, ◌*◌}
 use native.Mathlib.Omega.{arith}
 use lib.Dec.{ltb, leb}
-use lib.ListN.{length, take, drop, length-take, length-drop}
+use lib.ListN.{length, take, drop}
 use Rattle.rules.specs.Basics.{first_of, when}
 use Rattle.rules.specs.Limits.{header_size, no_state}
 use Rattle.rules.specs.Refusals as Refusal
@@ -30,9 +30,6 @@ module _ (bs : List ℕ) where
 
   pub marks_part : take (size - (header_size + cells)) (drop (header_size + cells) bs) ≡ t.marks
   marks_part = let e : size - (header_size + cells) ≡ 2 * cells = omega arith in rw e
-
-  pub parts_match : size ≤ length bs → 2 * length t.targets ≤ length t.marks
-  parts_match l = simp (length-take, length-drop) (omega arith)
 
   -- the refusals in their order
   pub header_short : ltb (length bs) header_size ≡ true → CheckSays bs Refusal.short
@@ -59,7 +56,9 @@ module _ (bs : List ℕ) where
           unfolding table_fault
           start_bad a = rw (whole, sizes, enough, exact, a)
 
-          pub cells_judged : leb t.states t.start ≡ false
-              → CheckSays bs (first_of (when (bad_targets t.states no_state t.targets) Refusal.target) (when (bad_marks t.pairs t.targets t.marks) Refusal.marks))
+          pub cells_judged : (wrong_target wrong_marks : Bool) → leb t.states t.start ≡ false
+              → wrong_target ≡ bad_targets t.states no_state (take (header_size + cells - header_size) (drop header_size bs))
+              → wrong_marks ≡ bad_marks t.pairs (take (header_size + cells - header_size) (drop header_size bs)) (take (size - (header_size + cells)) (drop (header_size + cells) bs))
+              → CheckSays bs (first_of (when wrong_target Refusal.target) (when wrong_marks Refusal.marks))
           unfolding table_fault
-          cells_judged a = rw (whole, sizes, enough, exact, a)
+          cells_judged wrong_target wrong_marks a e f = rw (e, f, targets_part, marks_part, whole, sizes, enough, exact, a)

@@ -22,12 +22,9 @@ pub(crate) fn bad_targets(targets: &[u8], n: u8) -> bool
     ensures { result ≡ bad_targets n no_state targets.now }
 {
     let mut bad = false;
-    let mut c = 0;
-    // bad says whether one of the first c targets is wrong
-    while c < targets.len() {
-        let target = targets[c];
-        bad = bad | !((target < n) | (target == NO_STATE));
-        c += 1;
+    // bad says whether one of the targets so far is wrong
+    for target in targets {
+        bad |= !((*target < n) | (*target == NO_STATE));
     }
     bad
 }
@@ -48,12 +45,10 @@ pub(crate) fn bad_marks(targets: &[u8], marks: &[u8], k: u8) -> bool
     let high = 256 - (1u16 << k);
     let above = high * 256 + high;
     let mut bad = false;
-    let mut c = 0;
-    // bad says whether one of the first c cells has a bit that it must not have
-    while c < targets.len() {
+    // bad says whether one of the cells so far has a bit that it must not have
+    for (c, target) in targets.iter().enumerate() {
         let mask = mask_of(marks[2 * c], marks[2 * c + 1]);
-        bad = bad | (mask & barred_bits(targets[c], above) != 0);
-        c += 1;
+        bad |= mask & barred_bits(*target, above) != 0;
     }
     bad
 }

@@ -1,8 +1,8 @@
 -- The codes of cells, from a table that is laid out and what was surveyed of it.
 --     few_cells_lem               there is room for its cells in small arrays for a table of few bytes
---     key_small, code_entered     the key at which a state is entered, by any set of pairs, and a code by such keys
+--     written_more                one cell more is written
 --     rising_marked               the rising pairs of a state, from the set of the pairs that count
---     first_key, cells_room       the key of the first row, and room for the codes
+--     first_key                   the key of the first row
 --     code_laid, codes_written    the code that the laid-out cells give a transition is the table's, and so are those of all cells
 use mathlib.Core.Path.{◌≡◌, refl, ap, ◌∙◌}
 use mathlib.Core.Bool.{Bool, true, false, ◌&&◌}
@@ -12,30 +12,37 @@ use native.Mathlib.Nat.{lt_of_lt_of_le, not-suc-le-zero}
 use native.Mathlib.Omega.{arith}
 use lib.Bits.{bit_and, and_lt}
 use lib.Dec.{eqb, leb}
-use lib.ListN.{length, get_or, take}
+use lib.ListN.{length, get_or, set, take}
 use lib.Pow.{pow_mono}
-use lib.Seq.{get_or-take, length-take-le}
-use borrow.Author.Tests.{ne_eqb, le-leb, leb-false, lt-ltb}
+use lib.Seq.{get_or-set_same, get_or-set_other, get_or-take, length-take-le}
+use borrow.Author.Tests.{eqb-true, eqb-false, ne_eqb, le-leb, leb-false, lt-ltb}
 use Rattle.rules.specs.Basics.{keep, tabulate, bit, as_bits}
 use Rattle.rules.specs.Limits.{max_pairs, no_state, no_row}
 use Rattle.rules.specs.Systems.{is_inside, component_of, cell}
 use Rattle.rules.specs.Tables.{Table, system_of, target_of, prohibited_byte, required_byte, prohibits, requires, counts, rising}
-use Rattle.rules.proofs.Arrays.{cell_within}
+use Rattle.rules.proofs.Arrays.{cell_same, cell_within}
 use Rattle.rules.proofs.Bits.{bit_and_lem, bit_over, as_bits_below, as_bits_at, bits_are}
 use Rattle.rules.proofs.Bools.{by}
 use Rattle.rules.proofs.Refusals.{table_facts}
 use Rattle.records.specs.Packed.{limit, is_marked}
-use Rattle.records.proofs.Packing.{kept_below, rising_below}
 use Rattle.survey.specs.Layouts.{wide_target, IsTable, counted_pairs, HasCells}
 use Rattle.survey.specs.Parts.{Listed}
 use Rattle.survey.proofs.Surveying.{home_inside}
 use Rattle.survey.proofs.Tables.{LaidTable}
-use Rattle.explore.specs.Cells.{span}
-use Rattle.translate.specs.Cells.{cut_marks, entry_key, cell_code, code_of, code_in, rising_key, CodesRoom, Written, TableCodes}
+use Rattle.translate.specs.Cells.{cut_marks, entry_key, cell_code, code_in, rising_key, Written, TableCodes, few_cells}
 
 -- a table of few bytes has few cells
-pub few_cells_lem : (bs : List ℕ) → length bs ≤ 196 → HasCells bs 64
+pub few_cells_lem : (bs : List ℕ) → length bs ≤ 196 → HasCells bs few_cells
 few_cells_lem bs l formed = let e = (table_facts bs formed).exact in omega arith
+
+-- cells written in their order, one more
+pub written_more : (f : ℕ → ℕ → ℕ) (m q a v : ℕ) (xs : List ℕ) → a < m → q * m + a < length xs → v ≡ f q a → ((p b : ℕ) → b < m → cell m p b < q * m + a → get_or xs (cell m p b) 0 ≡ f p b)
+    → (p b : ℕ) → b < m → cell m p b < q * m + (a + 1) → get_or (set xs (q * m + a) v) (cell m p b) 0 ≡ f p b
+written_more f m q a v xs la room here before p b lb l =
+    by
+    (eqb (cell m p b) (q * m + a))
+    (λ e. let same = cell_same m p q b a lb la (eqb-true _ _ e) in rw (same.0, same.1) (get_or-set_same xs (q * m + a) v 0 room ∙ here))
+    (λ e. let other = eqb-false (cell m p b) (q * m + a) e in get_or-set_other xs (q * m + a) (cell m p b) v 0 other ∙ before p b lb (omega (arith, other)))
 
 -- marks as bits, cut to the pairs that count
 cut_by_bits : (t : Table) (q marks : ℕ) (b : ℕ → Bool) → marks < 2 ^ t.pairs → ((i : ℕ) → bit i marks ≡ b (suc i))
@@ -46,10 +53,6 @@ cut_by_bits t q marks b l h =
     (λ j lj. bit_and_lem j marks (counted_pairs t q) ∙ rw (h j, as_bits_at (λ i. counts t q (suc i)) t.pairs j lj))
 
 -- ---- rising pairs
--- keys that agree on all states give the same codes
-pub code_entered : (n x w h k : ℕ) (hs : List ℕ) (e f : ℕ → ℕ) → ((q : ℕ) → q < n → e q ≡ f q) → code_of n x w h k hs e ≡ code_of n x w h k hs f
-code_entered n x w h k hs e f same = by (leb n x) (λ z. rw z) (λ z. rw (same x (leb-false n x z)))
-
 -- two tests that agree on the first k of n numbers, of which the first fails on all others
 kept_within : (b c : ℕ → Bool) (n k i : ℕ) → k ≤ n → ((j : ℕ) → i ≤ j → j < i + k → b j ≡ c j) → ((j : ℕ) → i + k ≤ j → b j ≡ false)
     → keep b (tabulate n i (λ j. j)) ≡ keep c (tabulate k i (λ j. j))
@@ -60,9 +63,6 @@ kept_within b c (suc n) zero i l same none =
 kept_within b c (suc n) (suc k) i l same none =
     rw
     (same i (omega arith) (omega arith), kept_within b c n k (suc i) (omega arith) (λ j h u. same j (omega arith) (omega arith)) (λ j h. none j (omega arith)))
-
-pub key_small : (q k : ℕ) → rising_key q k < q * span + span
-key_small q k = omega (arith, kept_below (is_marked k) (tabulate limit 1 (λ i. i)) 0 limit (omega arith) (rising_below limit 1 (omega arith)))
 
 pub rising_marked : (t : Table) (q : ℕ) → t.pairs ≤ max_pairs → keep (is_marked (counted_pairs t q)) (tabulate limit 1 (λ i. i)) ≡ rising t q
 rising_marked t q few = kept_within (is_marked set_of) (counts t q) limit t.pairs 1 few counted over
@@ -103,11 +103,6 @@ module _ {t : Table} {states letters start : ℕ} {ts ms : List ℕ} (good : IsT
 
     pub first_key : rising_key start (get_or cs start 0) ≡ entry_key t t.start
     first_key = rw x.start_state (key_is t.start good.start_state)
-
-    pub cells_room : CodesRoom states letters ts ms hs cs
-    cells_room =
-        rw (x.states, x.letters)
-        (record { few_states = good.few_states; few_letters = good.few_letters; target_room = x.targets.enough; mark_room = x.marks.enough; home_room = hl.enough; set_room = cl.enough })
 
     pub code_laid : (q a : ℕ) → q < n → a < m → code_in n m ts ms hs cs q a ≡ cell_code t q a
     unfolding cell_code

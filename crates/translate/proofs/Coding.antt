@@ -33,7 +33,7 @@ use Rattle.tables.specs.Parts.{WellFormed}
 use Rattle.translate.specs.Keys.{row_key, key_row, IsRow, IsKey}
 use Rattle.translate.proofs.RowKeys.{row_pairs, row_source, row_code, row_of_key, row_is_key, entry_is_row, entry_small}
 use Rattle.explore.specs.Cells as Key
-use Rattle.explore.specs.Effects.{effect_by, key_plan}
+use Rattle.explore.specs.Effects.{effect_by_pairs, key_plan}
 use Rattle.explore.specs.Exploring.{states_in, is_unfit}
 use Rattle.translate.specs.Cells.{cut_marks, entry_key, cell_code, task_of, TableCodes}
 
@@ -52,7 +52,7 @@ module _ (bs : List ℕ) (formed : WellFormed bs) (cells : List ℕ) (codes : Ta
   t = table_of bs
 
   abbrev k : Plan ℕ
-  k = key_plan (task_of t) cells
+  k = key_plan effect_by_pairs (task_of t) cells
 
   abbrev g : Plan (Row (List ℕ))
   g = table_plan t
@@ -105,7 +105,7 @@ module _ (bs : List ℕ) (formed : WellFormed bs) (cells : List ℕ) (codes : Ta
 
     -- the effect of the marks
     abbrev e : ℕ
-    e = effect_by (task_of t).rule (Key.memory_in v) (P + 256 * Q)
+    e = effect_by_pairs (Key.memory_in v) (P + 256 * Q)
 
     marks_low : (P + 256 * Q) % 256 ≡ P
     marks_low = omega (arith, cut_small q (prohibits t q a))
@@ -117,17 +117,17 @@ module _ (bs : List ℕ) (formed : WellFormed bs) (cells : List ℕ) (codes : Ta
     both x y o = Key.span * priority (marks_by x y) o + packed (moved as_they_stood (is_marked x) o)
 
     effect_is : e ≡ Key.span * priority (marks_of t q a) r.memory + packed (moved as_they_stood (prohibits t q a) r.memory)
-    unfolding effect_by
+    unfolding effect_by_pairs
     effect_is =
-        ap (λ (x : ℕ). effect_by (task_of t).rule x (P + 256 * Q)) memory_is
+        ap (λ (x : ℕ). effect_by_pairs x (P + 256 * Q)) memory_is
         ∙ ap (λ (x : ℕ). both x ((P + 256 * Q) / 256) (places (packed r.memory))) marks_low
         ∙ ap (λ (x : ℕ). both P x (places (packed r.memory))) marks_high
         ∙ ap (λ (x : ℕ). Key.span * x + packed (moved as_they_stood (is_marked P) (places (packed r.memory)))) (priority_packed r.memory good.few (row_pairs t few r good) (marks_by P Q) refl refl ∙ priority_same (marks_by P Q) (marks_of t q a) r.memory (cut_marked (prohibits t q a)) (cut_marked (requires t q a)))
         ∙ ap (λ (x : ℕ). Key.span * priority (marks_of t q a) r.memory + x) (moved_packed r.memory good.few (row_pairs t few r good) (is_marked P) refl ∙ ap packed (moved_same as_they_stood (is_marked P) (prohibits t q a) r.memory (cut_marked (prohibits t q a))))
 
     -- the step of the key, from its code and the effect
-    step_by : (code : ℕ) → w ≡ code → k.step v a ≡ Key.step_in code (effect_by (task_of t).rule (Key.memory_in v) (Key.marks_in code))
-    step_by code z = ap (λ (x : ℕ). Key.step_in x (effect_by (task_of t).rule (Key.memory_in v) (Key.marks_in x))) z
+    step_by : (code : ℕ) → w ≡ code → k.step v a ≡ Key.step_in code (effect_by_pairs (Key.memory_in v) (Key.marks_in code))
+    step_by code z = ap (λ (x : ℕ). Key.step_in x (effect_by_pairs (Key.memory_in v) (Key.marks_in x))) z
 
     inside_row : end < t.states → is_inside (system_of t) q a ≡ true → IsRow t (row end (moved as_they_stood (prohibits t q a) r.memory))
     inside_row h i =

@@ -3,4 +3,6 @@ pub mod RowKeys
 pub mod CellCodes
 pub mod Coding
 pub mod Unpacking
+pub mod Clearing
+pub mod Encoding
 pub mod Promises

@@ -2,11 +2,11 @@
 --     kept_few, kept_sources    no more rows are kept than there is room for, and their source states are bytes
 --     translate_refused         the table's own refusal
 --     translate_short           the capacity or an array out of range
---     translate_nothing         either of the two
 --     translate_explored        the rows were looked for, and the arrays cleared after those that are kept
+--     kept_is, told             the rows that are kept, and the answer with its refusal
 --     promised                  all promises, from the first
 use mathlib.Core.Path.{◌≡◌, refl, sym, ap, ◌∙◌}
-use mathlib.Core.Bool.{Bool, true, false}
+use mathlib.Core.Bool.{true, false}
 use mathlib.Core.List.{List, [], append-nil, map}
 use Prim.Native.Nat.{ℕ, zero, suc, ◌*◌, ◌<◌, ◌≤◌}
 use native.Mathlib.Nat.{zero-mul, mul-le-mul_right}
@@ -14,7 +14,7 @@ use native.Mathlib.Omega.{arith}
 use lib.Dec.{eqb-suc-zero}
 use lib.ListN.{length, get_or, length-map}
 use borrow.Author.Tests.{ne_eqb, ltb-false}
-use Rattle.rules.specs.Basics.{pick, first_of, when}
+use Rattle.rules.specs.Basics.{pick}
 use Rattle.rules.specs.Arrays.{Beyond, Cleared}
 use Rattle.rules.specs.Codings.{Codes}
 use Rattle.rules.specs.Limits.{no_row}
@@ -32,11 +32,15 @@ use Rattle.rules.proofs.Refusals.{ArrayFacts, arrays_enough, table_facts, fault_
 use Rattle.rules.proofs.Demands.{says_agrees}
 use Rattle.rules.proofs.Meanings.{translation_means}
 use Rattle.tables.specs.Parts.{WellFormed}
-use Rattle.explore.specs.declared.Rule.TheVariants.{Pairs}
-use Rattle.explore.specs.declared.Explored.{Explored}
-use Rattle.explore.specs.declared.Explored.TheVariants.{Rows, Full}
+use Rattle.std.specs.Prelude.{Result, Ok, Err, MatchResult}
+use Rattle.std.specs.Result.{IsErrAnd, result_unwrap_or}
+use Rattle.rules.specs.Numbered.{number_of, number_in}
+use Rattle.rules.specs.declared.refusal.Refusal.{Refusal as Refused}
+use Rattle.translate.specs.Answers.{rows_in}
+use Rattle.explore.specs.declared.Unexplored.{Unexplored}
+use Rattle.explore.specs.declared.Unexplored.TheVariants.{Full}
 use Rattle.explore.specs.Cells.{source_in}
-use Rattle.explore.specs.Effects.{key_plan}
+use Rattle.explore.specs.Effects.{effect_by_pairs, key_plan}
 use Rattle.explore.specs.Exploring.{ExploreSays, Leaves, lent}
 use Rattle.translate.specs.Keys.{key_row, IsKey}
 use Rattle.translate.specs.Cells.{entry_key, task_of, TableCodes}
@@ -65,20 +69,15 @@ unfolding translate_fault
 translate_short bs c ts ps ss es formed s =
     record { refusal = rw (formed, s); count = refl; target_array = refl; priority_array = refl; source_array = refl; record_array = refl }
 
--- the table's refusal or 7, before anything is written
-pub translate_nothing : (bs : List ℕ) (c letters : ℕ) (ts ps ss es : List ℕ) (short : Bool) (r : ℕ) → letters ≡ (table_of bs).letters
-    → short ≡ are_short c letters (length ts) (length ps) (length ss) (length es) → r ≡ first_of (table_fault bs) (when short Refusal.arrays) → (r ≡ 0 → ⊥)
-    → TranslateSays bs c (row_arrays ts ps ss es) (row_arrays ts ps ss es) r 0
-translate_nothing bs c letters ts ps ss es short r m s f g =
-    by_fault (table_fault bs) refl
-  where
-    by_fault : (x : ℕ) → table_fault bs ≡ x → TranslateSays bs c (row_arrays ts ps ss es) (row_arrays ts ps ss es) r 0
-    by_fault (suc x) e = translate_refused bs c ts ps ss es r (f ∙ rw e) g
-    by_fault zero e =
-        by
-        short
-        (λ h. let z : r ≡ Refusal.arrays = f ∙ rw (e, h) in rw z (translate_short bs c ts ps ss es e (rw m at (sym s ∙ h))))
-        (λ h. absurd (g (f ∙ rw (e, h))))
+-- an exploration's answer with its refusal
+pub told : (x : Result ℕ Unexplored) (y : Result ℕ Refused) → MatchResult x (λ n. y ≡ Ok n) (λ u. IsErrAnd y (λ r. number_of r ≡ refusal_of (Err u))) → (number_in y ≡ refusal_of x) × (rows_in y ≡ rows_kept x)
+told (Ok n) y h = rw h (refl, refl)
+told (Err u) (Ok n) h = absurd h
+told (Err u) (Err r) h = (h, refl)
+
+pub kept_is : (x : Result ℕ Unexplored) {n : ℕ} → n ≡ result_unwrap_or x 0 → n ≡ rows_kept x
+kept_is (Ok n) h = h
+kept_is (Err u) h = h
 
 -- a well-formed table, and the test of the arrays by its letters
 module _ (bs : List ℕ) (letters c : ℕ) (ts ps ss es : List ℕ) (formed : WellFormed bs) (same_letters : letters ≡ (table_of bs).letters) where
@@ -95,15 +94,15 @@ module _ (bs : List ℕ) (letters c : ℕ) (ts ps ss es : List ℕ) (formed : We
   rows = rows_of g c
 
   -- there is room, and the rows have been looked for
-  module _ (enough : ArrayFacts c letters (length ts) (length ps) (length ss) (length es)) {cells : List ℕ} {start : ℕ} (same_start : start ≡ entry_key t t.start) (codes : TableCodes t cells) {es₁ ts₁ ps₁ : List ℕ} {x : Explored} (explored : ExploreSays (record { rule = Pairs; letters = letters; start = start }) cells c (lent es ts ps) (lent es₁ ts₁ ps₁) x) where
+  module _ (enough : ArrayFacts c letters (length ts) (length ps) (length ss) (length es)) {cells : List ℕ} {start : ℕ} (same_start : start ≡ entry_key t t.start) (codes : TableCodes t cells) {es₁ ts₁ ps₁ : List ℕ} {x : Result ℕ Unexplored} (explored : ExploreSays effect_by_pairs (record { letters = letters; start = start }) cells c (lent es ts ps) (lent es₁ ts₁ ps₁) x) where
     room : ArrayFacts c m (length ts) (length ps) (length ss) (length es)
     room = rw same_letters at enough
 
-    says : ExploreSays (task_of t) cells c (lent es ts ps) (lent es₁ ts₁ ps₁) x
+    says : ExploreSays effect_by_pairs (task_of t) cells c (lent es ts ps) (lent es₁ ts₁ ps₁) x
     says = rw (same_letters, same_start) at explored
 
     abbrev k : Plan ℕ
-    k = key_plan (task_of t) cells
+    k = key_plan effect_by_pairs (task_of t) cells
 
     abbrev keys : List ℕ
     keys = rows_of k c
@@ -116,13 +115,13 @@ module _ (bs : List ℕ) (letters c : ℕ) (ts ps ss es : List ℕ) (formed : We
     keys_fit =
         arrays_enough (record { some_rows = room.some_rows; most_rows = room.most_rows; target_room = room.target_room; priority_room = room.priority_room; state_room = room.record_room; record_room = room.record_room })
 
-    answer : x ≡ pick (is_full g c) Full (Rows (length keys))
+    answer : x ≡ pick (is_full g c) (Err Full) (Ok (length keys))
     answer =
         says.answer
         ∙ rw (table_fit bs formed cells codes c (length ts) (length ps) (length es) keys_fit, full_coded k g key_row (IsKey t) coding c)
 
     -- no more rows than the capacity
-    by_answer : {C : Type 0} → (is_full g c ≡ true → x ≡ Full → C) → (is_full g c ≡ false → x ≡ Rows (length keys) → C) → C
+    by_answer : {C : Type 0} → (is_full g c ≡ true → x ≡ Err Full → C) → (is_full g c ≡ false → x ≡ Ok (length keys) → C) → C
     by_answer full done = by (is_full g c) (λ e. full e (answer ∙ rw e)) (λ e. done e (answer ∙ rw e))
 
     same_length : length keys ≡ length rows
@@ -132,8 +131,8 @@ module _ (bs : List ℕ) (letters c : ℕ) (ts ps ss es : List ℕ) (formed : We
     kept_few k = rw k (by_answer (λ e z. rw z (omega arith)) (λ e z. rw z (omega (arith, same_length, ltb-false c (length rows) e))))
 
     -- what is kept of the keys
-    module _ (done : is_full g c ≡ false) (z : x ≡ Rows (length keys)) where
-      arrays : Leaves (Rows (length keys)) (task_of t) cells c (lent es ts ps) (lent es₁ ts₁ ps₁)
+    module _ (done : is_full g c ≡ false) (z : x ≡ Ok (length keys)) where
+      arrays : Leaves (Ok (length keys)) effect_by_pairs (task_of t) cells c (lent es ts ps) (lent es₁ ts₁ ps₁)
       arrays = rw z at says.arrays
 
       few : length keys ≤ c
@@ -159,7 +158,7 @@ module _ (bs : List ℕ) (letters c : ℕ) (ts ps ss es : List ℕ) (formed : We
       abbrev Said : Type 0
       Said = TranslateSays bs c (row_arrays ts ps ss es) (row_arrays ts' ps' ss' es') (refusal_of x) (rows_kept x)
 
-      said_full : is_full g c ≡ true → x ≡ Full → Said
+      said_full : is_full g c ≡ true → x ≡ Err Full → Said
       unfolding translate_fault
       said_full e z =
           let a = rw z at says.arrays in
@@ -182,7 +181,7 @@ module _ (bs : List ℕ) (letters c : ℕ) (ts ps ss es : List ℕ) (formed : We
           padded_is (map h rows) (length-map rows h ∙ sym same_length) few enough rest clear
           (λ i l. rw (← append-nil (map h rows)) (front i l ∙ sym (mapped_at h rows [] i 0 g.first (rw same_length at l))))
 
-      said_done : is_full g c ≡ false → x ≡ Rows (length keys) → Said
+      said_done : is_full g c ≡ false → x ≡ Ok (length keys) → Said
       unfolding translate_fault
       said_done e z =
           let a = arrays e z in

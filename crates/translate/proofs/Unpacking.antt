@@ -1,5 +1,5 @@
 -- One row more is unpacked.
---     unpacked_none, unpacked_more    no row is unpacked yet; one row more
+--     unpacked_more    one row more
 use mathlib.Core.Path.{◌≡◌, ◌∙◌}
 use mathlib.Core.List.{List}
 use Prim.Native.Nat.{ℕ, ◌+◌, ◌<◌}
@@ -10,13 +10,9 @@ use lib.Seq.{get_or-set_same, get_or-set_other}
 use borrow.Author.Tests.{eqb-true, eqb-false}
 use Rattle.rules.proofs.Bools.{by}
 use Rattle.explore.specs.Cells.{source_in}
-use Rattle.rules.proofs.Filling.{beyond_none, beyond_set, beyond_then, beyond_wider}
+use Rattle.rules.proofs.Filling.{beyond_set, beyond_then, beyond_wider}
 use Rattle.translate.specs.Keys.{number_in}
 use Rattle.translate.specs.Rows.{Unpacked}
-
-pub unpacked_none : (keys ss : List ℕ) → Unpacked 0 keys keys ss ss
-unpacked_none keys ss =
-    record { states = λ i l. absurd (omega arith); numbers = λ i l. absurd (omega arith); state_rest = beyond_none 0 ss; key_rest = beyond_none 0 keys }
 
 -- a place more of an array, where the others before it are written
 noted_more : (n x : ℕ) (xs : List ℕ) (f : ℕ → ℕ) → n < length xs → x ≡ f n → ((i : ℕ) → i < n → get_or xs i 0 ≡ f i) → (i : ℕ) → i < n + 1 → get_or (set xs n x) i 0 ≡ f i

@@ -1,4 +1,4 @@
--- A table as a task for the exploration: its rule, letters and start, and a code for each cell.
+-- A table as a task for the exploration: its letters and start, and a code for each cell.
 --     cut_marks t q b                                number: the pairs that pass b and count in q's component, as bits: bit i - 1 for pair i
 --     entry_key t q                                  the key of the row by which a crossing enters at q
 --     cell_code t q a                                the code of the transition of q by a
@@ -11,19 +11,20 @@
 --     Written n m f cells                            claim: the cells hold what f says of their state and letter
 --     TableCodes t cells                             claim: the codes of all cells, and nothing after them
 --     few_cells                                      the cells for which small arrays are enough
---     EncodeSays bs short cells number used start    claim: encoding: the table's refusal, then 7 if `short`; else its codes in the first
---                                                    cells, and the key of the first row
-use Rattle.std.specs.Prelude.{◌≡◌, Bool, ◌&&◌, List, ℕ, suc, ◌+◌, ◌*◌, ◌/◌, ◌%◌, ◌<◌, ◌≤◌, eqb, leb, length, get_or, take}
+--     CellsEncoded n m start ts ms cells first       claim: the laid-out cells are surveyed, the codes are written by what that gives, and
+--                                                    `first` is the key at which the start is entered
+use Rattle.std.specs.Prelude.{◌≡◌, Bool, ◌&&◌, List, ℕ, suc, ◌+◌, ◌*◌, ◌/◌, ◌%◌, ◌<◌, ◌≤◌, eqb, leb, length, get_or}
 use Rattle.std.specs.Int.Bits.{bit_and}
-use Rattle.rules.specs.Basics.{pick, first_of, when, keep, tabulate, as_bits}
+use Rattle.rules.specs.Basics.{pick, keep, tabulate, as_bits}
+use Rattle.rules.specs.Judges.{parity_system}
 use Rattle.rules.specs.Limits.{max_states, max_letters}
-use Rattle.rules.specs.Refusals as Refusal
-use Rattle.rules.specs.Systems.{is_inside, cell}
+use Rattle.rules.specs.Systems.{is_inside, component_of, cell}
 use Rattle.rules.specs.Rows.{row}
-use Rattle.rules.specs.Tables.{Table, table_of, table_fault, system_of, target_of, prohibits, requires, counts, rising}
+use Rattle.rules.specs.Tables.{Table, system_of, target_of, prohibits, requires, counts, rising}
 use Rattle.records.specs.Packed.{limit, is_marked, packed}
+use Rattle.survey.specs.Layouts.{counted_in}
+use Rattle.survey.specs.Parts.{Listed}
 use Rattle.explore.specs.declared.Task.{Task}
-use Rattle.explore.specs.declared.Rule.TheVariants.{Pairs}
 use Rattle.explore.specs.Cells.{key_of, crossing_code, inside_code}
 use Rattle.translate.specs.Keys.{row_key}
 
@@ -39,7 +40,7 @@ cell_code t q a =
     (pick (is_inside (system_of t) q a) (inside_code (target_of t q a) (cut_marks t q (prohibits t q a) + 256 * cut_marks t q (requires t q a))) (crossing_code (entry_key t (target_of t q a))))
 
 abbrev pub task_of : Table → Task
-task_of t = record { rule = Pairs; letters = t.letters; start = entry_key t t.start }
+task_of t = record { letters = t.letters; start = entry_key t t.start }
 
 -- codes by the laid-out cells
 abbrev pub code_of : ℕ → ℕ → ℕ → ℕ → ℕ → List ℕ → (ℕ → ℕ) → ℕ
@@ -72,7 +73,10 @@ pub record TableCodes (t : Table) (cells : List ℕ) : Type 0 where
 abbrev pub few_cells : ℕ
 few_cells = 64
 
-pub record EncodeSays (bs : List ℕ) (short : Bool) (cells : List ℕ) (number used start : ℕ) : Type 0 where
-  pub refusal : number ≡ first_of (table_fault bs) (when short Refusal.arrays)
-  pub task : number ≡ 0
-      → (start ≡ entry_key (table_of bs) (table_of bs).start) × (used ≤ length cells) × TableCodes (table_of bs) (take used cells)
+pub record CellsEncoded (n m start : ℕ) (ts ms cells : List ℕ) (first : ℕ) : Type 0 where
+  pub homes : List ℕ
+  pub sets : List ℕ
+  pub home_array : Listed n (component_of (parity_system n m ts)) homes
+  pub set_array : Listed n (counted_in n m ts ms) sets
+  pub codes : Written n m (code_in n m ts ms homes sets) cells
+  pub first_key : first ≡ rising_key start (get_or sets start 0)

@@ -3,12 +3,11 @@
 --     RowsLeft m n c ..    claim: the same, and the rows from number n up to c are 0 in all four arrays
 --     refusal_of x         the refusal for an exploration's answer
 --     rows_kept x          number: how many rows are kept, none if there are more than the capacity
-use Rattle.std.specs.Prelude.{◌≡◌, List, ℕ, ◌*◌, ◌<◌, get_or}
-use Rattle.rules.specs.Refusals as Refusal
-use Rattle.explore.specs.declared.Explored.{Explored}
-use Rattle.explore.specs.declared.Explored.TheVariants.{Rows, Full, Unfit}
+use Rattle.std.specs.Prelude.{◌≡◌, List, ℕ, ◌*◌, ◌<◌, get_or, Result, Ok, Err}
+use Rattle.explore.specs.declared.Unexplored.{Unexplored}
 use Rattle.rules.specs.Arrays.{Beyond, Cleared}
 use Rattle.explore.specs.Cells.{source_in}
+use Rattle.explore.specs.Exploring.{refusal_for}
 use Rattle.translate.specs.Keys.{number_in}
 
 pub record Unpacked (n : ℕ) (keys keys' ss ss' : List ℕ) : Type 0 where
@@ -26,12 +25,10 @@ pub record RowsLeft (m n c : ℕ) (ts ts' ps ps' ss ss' es es' : List ℕ) : Typ
   pub source_array : Cleared n c states ss'
   pub number_array : Cleared n c numbers es'
 
-abbrev pub refusal_of : Explored → ℕ
-refusal_of (Rows n) = 0
-refusal_of Full = Refusal.full
-refusal_of Unfit = Refusal.arrays
+abbrev pub refusal_of : Result ℕ Unexplored → ℕ
+refusal_of (Ok n) = 0
+refusal_of (Err u) = refusal_for u
 
-abbrev pub rows_kept : Explored → ℕ
-rows_kept (Rows n) = n
-rows_kept Full = 0
-rows_kept Unfit = 0
+abbrev pub rows_kept : Result ℕ Unexplored → ℕ
+rows_kept (Ok n) = n
+rows_kept (Err _) = 0

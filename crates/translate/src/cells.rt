@@ -1,87 +1,90 @@
 // A laid-out table as a task for the exploration: the key at which each state is entered, and a code for each cell.
-ghost use Rattle.std.specs.Prelude.{◌≡◌, ℕ, ◌+◌, ◌*◌, ◌<◌, ◌≤◌, length, get_or};
+ghost use Rattle.std.specs.Prelude.{◌≡◌, ◌*◌, ◌<◌, ◌≤◌, length};
 ghost use Rattle.rules.specs.Limits.{max_states, max_letters};
 ghost use Rattle.survey.specs.Parts.{Listed};
-ghost use Rattle.explore.specs.Cells.{crossing_kind};
-ghost use Rattle.translate.specs.Cells.{code_of, code_in, rising_key, CodesRoom, Written};
+ghost use Rattle.translate.specs.Cells.{Written, CellsEncoded};
+ghost use Rattle.translate.specs.Surveyed.{key_at, code_at, code_in_cell};
 
+use crate::surveyed::Surveyed;
 use explore::codes::{CROSSING, INSIDE, SPAN};
 use records::Record;
 use rules::limit::MAX_STATES;
+use survey::{Laid, survey_cells};
 
-// The code of a transition, by its target and marks, the home of its state and the pairs that count there.
-fn cell_code(
-    n: usize,
-    target: u16,
-    marks: u16,
-    home: u16,
-    counted: u8,
-    homes: &[u16],
-    entries: &[u32],
-) -> u32
-    requires { (n ≤ max_states) × (n ≤ length homes.now) × (n ≤ length entries.now) × ((q : ℕ) → q < n → get_or entries.now q 0 < crossing_kind) }
-    ensures { result ≡ code_of n target marks home counted homes.now (λ q. get_or entries.now q 0) }
-{
-    let state = target as usize;
-    if n <= state {
-        return 0;
+impl<'a> Surveyed<'a> {
+    // Writes the key at which each state is entered: its pairs rising.
+    fn write_entries(self, entries: &mut [u32])
+        requires { self.states ≤ length entries.old }
+        ensures { Listed self.entry.states (key_at self.entry) entries.new }
+    {
+        let counted = &self.counted[..self.states];
+        // the keys of the states below q are written
+        for (q, pairs) in counted.iter().enumerate() {
+            let order = Record::rising(*pairs);
+            entries[q] = q as u32 * SPAN + order.code;
+        }
     }
-    if homes[state] == home {
-        let prohibited = (marks % 256) as u8 & counted;
-        let required = (marks / 256) as u8 & counted;
-        return INSIDE + (65536 * target as u32 + (prohibited as u32 + 256 * required as u32));
+
+    // The code of cell c, a transition of state q, by the keys at which the states are entered.
+    fn code(self, q: usize, c: usize, entries: &[u32]) -> u32
+        requires { (q < self.states) × (c < self.states * self.letters) × Listed self.states (key_at self) entries.now }
+        ensures { result ≡ code_in_cell self.entry q c }
+    {
+        let target = self.targets[c];
+        let state = usize::from(target);
+        if self.states <= state {
+            return 0;
+        }
+        if self.homes[state] == self.homes[q] {
+            let marks = self.marks[c];
+            let counted = self.counted[q];
+            let prohibited = (marks % 256) as u8 & counted;
+            let required = (marks / 256) as u8 & counted;
+            return INSIDE
+                + (65536 * u32::from(target) + (u32::from(prohibited) + 256 * u32::from(required)));
+        }
+        CROSSING + entries[state]
     }
-    CROSSING + entries[state]
+
+    // Writes the codes of all cells. The result is the key at which the first state is entered.
+    fn write_codes(self, first: usize, cells: &mut [u32]) -> u32
+        requires { (first < self.states) × (self.states * self.letters ≤ length cells.old) }
+        ensures { (result ≡ key_at self.entry first) × Written self.entry.states self.entry.letters (code_at self.entry) cells.new }
+    {
+        let mut entries = [0; MAX_STATES as usize];
+        self.write_entries(&mut entries);
+        // the codes of the states below q are written
+        for q in 0..self.states {
+            // and those of q by the letters below a
+            for a in 0..self.letters {
+                let c = q * self.letters + a;
+                cells[c] = self.code(q, c, &entries);
+            }
+        }
+        entries[first]
+    }
 }
 
-// The state of cell c: the one after q where q's cells end.
-fn state_at(m: usize, q: usize, c: usize) -> usize
-    requires { (0 < m) × (m ≤ max_letters) × (q ≤ max_states) × (c ≤ max_states * max_letters) × (q * m ≤ c) × (c ≤ q * m + m) }
-    ensures { (result * m ≤ c) × (c < result * m + m) }
+// Writes the codes of the cells of a table that is laid out. The result is the key at which its start is entered.
+pub(crate) fn encode_cells(laid: Laid, targets: &[u16], marks: &[u16], cells: &mut [u32]) -> u32
+    requires { (laid.states ≤ max_states) × (laid.letters ≤ max_letters) × (laid.start < laid.states) × (laid.states * laid.letters ≤ length targets.now) × (laid.states * laid.letters ≤ length marks.now) × (laid.states * laid.letters ≤ length cells.old) }
+    ensures { CellsEncoded laid.states laid.letters laid.start targets.now marks.now cells.new result }
 {
-    if c == q * m + m { q + 1 } else { q }
-}
-
-// Writes the key at which each state is entered: its pairs rising.
-fn write_entries(n: usize, counted: &[u8], entries: &mut [u32])
-    requires { (n ≤ max_states) × (n ≤ length counted.now) × (n ≤ length entries.old) }
-    ensures { Listed n (λ q. rising_key q (get_or counted.now q 0)) entries.new }
-{
-    let mut q = 0;
-    // the keys of the states below q are written
-    while q < n {
-        let order = Record::rising(counted[q]);
-        entries[q] = q as u32 * SPAN + order.code;
-        q += 1;
-    }
-}
-
-// Writes the codes of all cells. The result is the key at which the first state is entered.
-pub(crate) fn write_codes(
-    n: usize,
-    m: usize,
-    first: usize,
-    targets: &[u16],
-    marks: &[u16],
-    homes: &[u16],
-    counted: &[u8],
-    cells: &mut [u32],
-) -> u32
-    requires { CodesRoom n m targets.now marks.now homes.now counted.now × (first < n) × (n * m ≤ length cells.old) }
-    ensures { (result ≡ rising_key first (get_or counted.now first 0)) × Written n m (code_in n m targets.now marks.now homes.now counted.now) cells.new }
-{
-    let mut entries = [0; MAX_STATES as usize];
-    write_entries(n, counted, &mut entries);
-    let used = n * m;
-    let mut q = 0;
-    let mut c = 0;
-    // the codes of the cells below c are written, and c is a cell of q or the one after them
-    while c < used {
-        q = state_at(m, q, c);
-        cells[c] = cell_code(
-            n, targets[c], marks[c], homes[q], counted[q], homes, &entries,
-        );
-        c += 1;
-    }
-    entries[first]
+    let Laid {
+        states,
+        letters,
+        start,
+    } = laid;
+    let mut homes = [0; MAX_STATES as usize];
+    let mut counted = [0; MAX_STATES as usize];
+    survey_cells(states, letters, targets, marks, &mut homes, &mut counted);
+    let surveyed = Surveyed {
+        states,
+        letters,
+        targets,
+        marks,
+        homes: &homes,
+        counted: &counted,
+    };
+    surveyed.write_codes(start, cells)
 }

@@ -3,97 +3,78 @@
 // the promise `TranslateSays` of the rules, with it demand 3 of the arrays as they are left, `TranslationAgrees`, and what the rows mean, `TranslationMeans`.
 #![tactic(auto)]
 
-use crate::encode::{FEW_BYTES, FEW_CELLS, MAX_CELLS};
-use explore::{Explored, Rule, Task, are_short, find_rows};
-use rules::refusal;
+use crate::cells::encode_cells;
+use crate::lent::Lent;
+use explore::{Pairs, Task, are_short, find_rows};
+use rules::limit::{HEADER_SIZE, MAX_LETTERS, MAX_STATES};
+use rules::refusal::Refusal;
+use survey::lay_table;
 use tables::letters_of;
 
 mod cells;
-mod encode;
-mod rows;
+mod lent;
+mod surveyed;
 
-ghost use Rattle.std.specs.Prelude.{◌≡◌, true, length};
+ghost use Rattle.std.specs.Prelude.{◌≡◌, ◌*◌, ◌≤◌};
+ghost use Rattle.rules.specs.Limits.{max_states, max_letters};
+ghost use Rattle.rules.specs.Numbered.{number_in};
 ghost use Rattle.rules.specs.Says.{TranslateSays, TranslationAgrees, TranslationMeans, row_arrays};
 ghost use Rattle.survey.specs.Layouts.{HasCells};
-ghost use Rattle.translate.specs.Cells.{few_cells};
-ghost use Rattle.translate.specs.Rows.{refusal_of, rows_kept};
+ghost use Rattle.translate.specs.Answers.{rows_in};
+ghost use Rattle.translate.specs.Lending.{arrays_in, SameLent};
 
-// The refusal or 0, and the number of rows, 0 on a refusal.
-#[repr(C)]
-#[derive(Clone, Copy)]
-pub struct Translation {
-    pub number: u8,
-    pub rows: usize,
-}
+// The cells for which small arrays are enough, and the bytes of a table with so many.
+const FEW_CELLS: usize = 64;
 
-// What an exploration's answer says: its refusal and how many rows are kept, none where there are more than the capacity.
-fn told(explored: Explored) -> Translation
-    ensures { (result.number ≡ refusal_of explored) × (result.rows ≡ rows_kept explored) }
-{
-    match explored {
-        Explored::Rows(rows) => Translation { number: 0, rows },
-        Explored::Full => Translation {
-            number: refusal::FULL,
-            rows: 0,
-        },
-        Explored::Unfit => Translation {
-            number: refusal::ARRAYS,
-            rows: 0,
-        },
+const FEW_BYTES: usize = HEADER_SIZE + 3 * FEW_CELLS;
+
+// The cells that a table can have.
+const MAX_CELLS: usize = MAX_STATES as usize * MAX_LETTERS as usize;
+
+impl<'a> Lent<'a> {
+    // Translates a table of at most CELLS cells, with local arrays for so many.
+    fn translate<const CELLS: usize>(&mut self, table: &[u8]) -> Result<usize, Refusal>
+        requires { (CELLS ≤ max_states * max_letters) × HasCells table.now CELLS }
+        ensures says { TranslateSays table.now self.old.capacity (arrays_in self.old) (arrays_in self.new) (number_in result) (rows_in result) }
+        ensures agrees { TranslationAgrees table.now self.new.targets.now self.new.priorities.now self.new.sources.now (number_in result) (rows_in result) }
+        ensures means { TranslationMeans table.now self.old.capacity (number_in result) }
+        ensures same { SameLent self.old self.new }
+    {
+        let mut cell_targets = [0; CELLS];
+        let mut cell_marks = [0; CELLS];
+        let laid = lay_table(table, &mut cell_targets, &mut cell_marks)?;
+        let short = are_short(
+            self.capacity,
+            letters_of(table),
+            self.targets.len(),
+            self.priorities.len(),
+            self.sources.len(),
+            self.records.len(),
+        );
+        if short {
+            return Err(Refusal::Arrays);
+        }
+        let mut cells = [0; CELLS];
+        let start = encode_cells(laid, &cell_targets, &cell_marks, &mut cells);
+        let letters = laid.letters;
+        let task = Task { letters, start };
+        let used = laid.states * letters;
+        // the keys of the rows are in the array of record numbers until they are unpacked
+        let found = find_rows::<Pairs>(
+            task,
+            &cells[..used],
+            self.capacity,
+            self.records,
+            self.targets,
+            self.priorities,
+        );
+        self.leave_rows(letters, found.unwrap_or(0));
+        found.map_err(Refusal::from)
     }
 }
 
-// Translates with a lent array for the codes of the table's cells, which may be few.
-fn translate_in(
-    few: bool,
-    cells: &mut [u32],
-    table: &[u8],
-    capacity: usize,
-    targets: &mut [u16],
-    priorities: &mut [u8],
-    sources: &mut [u8],
-    records: &mut [u32],
-) -> Translation
-    requires { (few ≡ true → HasCells table.now few_cells) × HasCells table.now (length cells.old) }
-    ensures says { TranslateSays table.now capacity (row_arrays targets.old priorities.old sources.old records.old) (row_arrays targets.new priorities.new sources.new records.new) result.number result.rows }
-    ensures agrees { TranslationAgrees table.now targets.new priorities.new sources.new result.number result.rows }
-    ensures means { TranslationMeans table.now capacity result.number }
-{
-    let m = letters_of(table);
-    let short = are_short(
-        capacity,
-        m,
-        targets.len(),
-        priorities.len(),
-        sources.len(),
-        records.len(),
-    );
-    let encoded = encode::encode_table(table, short, few, cells);
-    let number = encoded.number;
-    if number != 0 {
-        return Translation { number, rows: 0 };
-    }
-    let rule = Rule::Pairs;
-    let letters = m as usize;
-    let start = encoded.start;
-    let task = Task {
-        rule,
-        letters,
-        start,
-    };
-    let used = encoded.used;
-    // the keys of the rows are in the array of record numbers until they are unpacked
-    let explored = find_rows(task, &cells[..used], capacity, records, targets, priorities);
-    let told = told(explored);
-    let number = told.number;
-    let rows = told.rows;
-    rows::leave_rows(
-        letters, rows, capacity, targets, priorities, sources, records,
-    );
-    Translation { number, rows }
-}
-
-// The parity table of a Rabin table, in the lent arrays. Of few bytes it has few cells: clearing arrays for the most would take the longest.
+// The parity table of a Rabin table, in the lent arrays, and the number of its rows. Of few bytes it has few cells: clearing arrays for the most would take
+// the longest.
 pub fn translate_table(
     table: &[u8],
     capacity: usize,
@@ -101,19 +82,20 @@ pub fn translate_table(
     priorities: &mut [u8],
     sources: &mut [u8],
     records: &mut [u32],
-) -> Translation
-    ensures says { TranslateSays table.now capacity (row_arrays targets.old priorities.old sources.old records.old) (row_arrays targets.new priorities.new sources.new records.new) result.number result.rows }
-    ensures agrees { TranslationAgrees table.now targets.new priorities.new sources.new result.number result.rows }
-    ensures means { TranslationMeans table.now capacity result.number }
+) -> Result<usize, Refusal>
+    ensures says { TranslateSays table.now capacity (row_arrays targets.old priorities.old sources.old records.old) (row_arrays targets.new priorities.new sources.new records.new) (number_in result) (rows_in result) }
+    ensures agrees { TranslationAgrees table.now targets.new priorities.new sources.new (number_in result) (rows_in result) }
+    ensures means { TranslationMeans table.now capacity (number_in result) }
 {
+    let mut lent = Lent {
+        capacity,
+        targets,
+        priorities,
+        sources,
+        records,
+    };
     if table.len() <= FEW_BYTES {
-        let mut cells = [0; FEW_CELLS];
-        return translate_in(
-            true, &mut cells, table, capacity, targets, priorities, sources, records,
-        );
+        return lent.translate::<FEW_CELLS>(table);
     }
-    let mut cells = [0; MAX_CELLS];
-    translate_in(
-        false, &mut cells, table, capacity, targets, priorities, sources, records,
-    )
+    lent.translate::<MAX_CELLS>(table)
 }

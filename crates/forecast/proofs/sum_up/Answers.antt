@@ -1,29 +1,22 @@
--- `forecast::sum_up` meets its contract. The invariant: the figures are those of the states below q.
-use native.Mathlib.Nat.{le_antisymm}
-use native.Mathlib.Omega.{arith}
-use Rattle.forecast.proofs.Counting.{figures_none, rows_few, figures_more}
+-- `forecast::sum_up` meets its contract.
+use Rattle.std.proofs.Common.{◌≡◌, take, arith, rules}
+use Rattle.std.specs.Iterator.Adapters.{zip_first, zip_second}
+use Rattle.std.specs.Slice.Iter.{iter_rest}
+use Rattle.std.proofs.lemmas.List.{length_push}
+use Rattle.std.proofs.lemmas.Slice.Zip.{zip_turn}
+use Rattle.forecast.proofs.Counting.{added_few, figures_turn}
 use Rattle.forecast.proofs.sum_up.Goals as goal
-
-pub rows_at-rows-requires : goal.rows_at-rows-requires
-rows_at-rows-requires c = c.requires.3 _ c.loop-q-test.true
 
 pub overflow_add-rows : goal.overflow_add-rows
 overflow_add-rows c =
-    let i = c.loop-q in
-    let l = c.loop-q-test.true in
-    omega (arith, i.invariant.1.few_rows, c.requires.0, c.rows_at-rows.ensures, rows_few c.args.n c.args.homes.now c.args.counted.now i.q (c.requires.3 i.q l))
+    let first : iter_rest (zip_first c.into_iter-home-iterator.result) ≡ take c.args.n c.args.homes.now = search rules in
+    let second : iter_rest (zip_second c.into_iter-home-iterator.result) ≡ take c.args.n c.args.counted.now = search rules in
+    let t = zip_turn (take c.args.n c.args.homes.now) (take c.args.n c.args.counted.now) c.loop-home.yielded c.into_iter-home-iterator.result c.loop-home.home-iterator c.next.new.self c.next.result first second c.loop-home.yielded_by _ c.in-Some.is c.next.ensures.steps in
+    omega (arith, added_few _ _ _ t c.rows_at-rows.ensures c.requires.1 c.requires.0 _ _ c.loop-home.invariant)
 
-pub loop-q-preserved : goal.loop-q-preserved
-loop-q-preserved c =
-    let i = c.loop-q in
-    let l = c.loop-q-test.true in
-    (omega arith, rw (c.rows_at-rows.ensures, c.larger-most.ensures) (figures_more c.args.n c.args.homes.now c.args.counted.now i.q i.rows i.most (c.requires.3 i.q l) i.invariant.1))
-
-pub returns : goal.returns
-returns c =
-    let i = c.loop-q.invariant in
-    let x = rw (le_antisymm i.0 c.loop-q-test.false) at i.1 in
-    record { row_sum = x.row_sum; most_pairs = x.most_pairs; few_pairs = x.few_pairs }
-
-pub loop-q-init : goal.loop-q-init
-loop-q-init c = (omega arith, figures_none _ _ _)
+pub loop-home-preserved : goal.loop-home-preserved
+loop-home-preserved c =
+    let first : iter_rest (zip_first c.into_iter-home-iterator.result) ≡ take c.args.n c.args.homes.now = search rules in
+    let second : iter_rest (zip_second c.into_iter-home-iterator.result) ≡ take c.args.n c.args.counted.now = search rules in
+    let t = zip_turn (take c.args.n c.args.homes.now) (take c.args.n c.args.counted.now) c.loop-home.yielded c.into_iter-home-iterator.result c.loop-home.home-iterator c.next.new.self c.next.result first second c.loop-home.yielded_by _ c.in-Some.is c.next.ensures.steps in
+    rw length_push (figures_turn _ _ _ t c.rows_at-rows.ensures c.requires.1 _ _ _ c.max-most.ensures c.loop-home.invariant)

@@ -4,4 +4,4 @@ use Rattle.rules.proofs.ListingBounds.{listing_whole}
 use Rattle.listing.proofs.list.Goals as goal
 
 pub returns : goal.returns
-returns c = listing_whole c.list_table.ensures (omega arith)
+returns c = (listing_whole c.list_table-length.ensures (omega arith)).1

@@ -1,18 +1,15 @@
--- `explore::check::any_strays` meets its contract. The invariant: some code strays exactly if `found` says so or one from i on does.
+-- `explore::check::any_strays` meets its contract: it folds over the codes.
 use borrow.Author.Rules.{rules}
-use mathlib.Core.Path.{refl, ◌∙◌}
-use native.Mathlib.Omega.{arith}
-use Rattle.rules.proofs.Sets.{any_turn, any_end}
+use mathlib.Core.Path.{◌∙◌}
+use mathlib.Core.Bool.{false, ◌||◌}
+use Rattle.std.proofs.lemmas.Iterator.{YieldsList-from_slice}
+use Rattle.std.proofs.lemmas.Iterator.Consumers.{fold_from_yields_List}
 use Rattle.explore.specs.Cells.{strays}
+use Rattle.explore.proofs.Folds.{fold_any}
 use Rattle.explore.proofs.check.any_strays.Goals as goal
 
-pub loop-i-preserved : goal.loop-i-preserved
-loop-i-preserved c =
-    let i = c.loop-i in
-    (omega arith, rw c.strays-found.ensures (any_turn (strays _) i.found _ i.i c.loop-i-test.true) ∙ i.invariant.1)
-
-pub loop-i-init : goal.loop-i-init
-loop-i-init c = (search rules, refl)
-
 pub returns : goal.returns
-returns c = any_end _ _ _ _ c.loop-i-test.false c.loop-i.invariant.1
+returns c =
+    let b = strays c.args.n in
+    fold_from_yields_List _ (λ found w. found || b w) false c.fold.result c.fold.ensures.ran (YieldsList-from_slice c.args.cells.now cc) (λ a x r q k. search rules)
+    ∙ fold_any b false c.args.cells.now

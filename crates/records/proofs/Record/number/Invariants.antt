@@ -2,7 +2,7 @@
 -- it is the whole number.
 use mathlib.Core.Path.{◌≡◌}
 use mathlib.Core.List.{◌∷◌}
-use Prim.Native.Nat.{suc, ◌*◌, ◌-◌, ◌^◌, ◌≤◌}
+use Prim.Native.Nat.{suc, ◌*◌, ◌^◌, ◌≤◌}
 use lib.ListN.{drop}
 use Rattle.rules.specs.Basics.{keep}
 use Rattle.rules.specs.Records.{decimal_from, decimal}
@@ -12,6 +12,3 @@ use Rattle.records.proofs.Record.number.Given as goal
 abbrev pub invariant-loop-p : goal.invariant-loop-p
 invariant-loop-p l =
     (10 * suc l.number ≤ 10 ^ l.p) × (decimal_from l.number (keep is_pair (drop l.p (0 ∷ places l.self.code))) ≡ decimal (pairs_in l.self.code))
-
-abbrev pub decreases-loop-p : goal.decreases-loop-p
-decreases-loop-p l = 7 - l.p

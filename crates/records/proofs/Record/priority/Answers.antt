@@ -1,11 +1,10 @@
 -- `records::Record::priority` meets its contract. The invariant: the positions from p on make of `best` the whole priority.
-use mathlib.Core.Path.{sym, ap, ◌∙◌}
-use mathlib.Core.List.{List, ◌∷◌}
+use mathlib.Core.Path.{◌∙◌}
+use mathlib.Core.List.{List}
 use Prim.Native.Nat.{ℕ}
 use native.Mathlib.Numerals.{add-one}
 use native.Mathlib.Omega.{arith}
-use lib.ListN.{drop_of_length-le}
-use Rattle.rules.specs.Records.{Marks, priority_from}
+use Rattle.rules.specs.Records.{Marks}
 use Rattle.records.specs.Packed.{marks_by, places}
 use Rattle.records.proofs.Packing.{decided_turn}
 use Rattle.records.proofs.Record.priority.Goals as goal
@@ -20,10 +19,3 @@ loop-p-preserved c =
     let i : ℕ = pair.result.0 in
     rw (add-one turn.p)
     (decided_turn o turn.p i (omega arith) pair.ensures m c.is_in-odd.result c.is_in-even.result c.is_in-odd.ensures c.is_in-even.ensures turn.best c.decided-best.result c.decided-best.ensures ∙ turn.invariant)
-
-pub returns : goal.returns
-returns c =
-    let s = c.args in
-    let turn = c.loop-p in
-    sym (ap (λ (z : List ℕ). priority_from turn.p (marks_by s.prohibited s.required) z turn.best) (drop_of_length-le (0 ∷ places s.self.code) {i = turn.p} (omega arith)))
-    ∙ turn.invariant

@@ -1,7 +1,6 @@
 -- `records::Record::priority` meets its contract. The invariant: the positions from p on make of `best` the whole priority.
 use mathlib.Core.Path.{◌≡◌}
 use mathlib.Core.List.{◌∷◌}
-use Prim.Native.Nat.{◌-◌}
 use lib.ListN.{drop}
 use Rattle.rules.specs.Records.{priority_from, priority}
 use Rattle.records.specs.Packed.{marks_by, places}
@@ -11,6 +10,3 @@ abbrev pub invariant-loop-p : goal.invariant-loop-p
 invariant-loop-p l =
     priority_from l.p (marks_by l.prohibited l.required) (drop l.p (0 ∷ places l.self.code)) l.best
     ≡ priority (marks_by l.prohibited l.required) (places l.self.code)
-
-abbrev pub decreases-loop-p : goal.decreases-loop-p
-decreases-loop-p l = 7 - l.p

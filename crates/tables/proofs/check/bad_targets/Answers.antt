@@ -1,16 +1,10 @@
--- `tables::check::bad_targets` meets its contract. The invariant: some target is wrong exactly if `bad` says so or one from c on is.
-use mathlib.Core.Path.{refl, ◌∙◌}
-use native.Mathlib.Omega.{arith}
-use borrow.Author.Rules.{rules}
+-- `tables::check::bad_targets` meets its contract.
+use Rattle.std.proofs.Common.{◌∙◌, arith}
 use Rattle.rules.proofs.Sets.{any_turn, any_end}
 use Rattle.tables.proofs.check.bad_targets.Goals as goal
 
-pub loop-c-init : goal.loop-c-init
-loop-c-init c = (search rules, refl)
-
-pub loop-c-preserved : goal.loop-c-preserved
-loop-c-preserved c =
-    let i = c.loop-c in (omega arith, any_turn _ i.bad _ i.c c.loop-c-test.true ∙ i.invariant.1)
+pub loop-target-preserved : goal.loop-target-preserved
+loop-target-preserved c = let i = c.loop-target in any_turn _ i.bad _ i.target-index (omega arith) ∙ i.invariant
 
 pub returns : goal.returns
-returns c = any_end _ _ _ _ c.loop-c-test.false c.loop-c.invariant.1
+returns c = any_end _ c.loop-target.bad c.args.targets.now c.loop-target.target-index c.loop-target-test.false c.loop-target.invariant

@@ -1,9 +1,0 @@
--- `cards::run` is safe and ends. The invariant: the rows below i are printed.
-use Rattle.std.proofs.Common.{◌-◌, ◌≤◌}
-use Rattle.cards.proofs.run.Given as goal
-
-abbrev pub invariant-loop-i : goal.invariant-loop-i
-invariant-loop-i g l = l.i ≤ 5
-
-abbrev pub decreases-loop-i : goal.decreases-loop-i
-decreases-loop-i g l = 5 - l.i

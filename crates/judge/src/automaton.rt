@@ -1,0 +1,72 @@
+// What the run over a looped word knows of a table, of whatever kind.
+ghost use Rattle.std.specs.Prelude.{◌≡◌, ℕ, ◌<◌, ◌≤◌, Bool, false, List};
+ghost use Rattle.rules.specs.Limits.{max_rows};
+ghost use Rattle.rules.specs.Systems.{System};
+ghost use Rattle.rules.specs.Runs.{Taken};
+ghost use Rattle.judge.specs.Passes.{SumsUp, Joins, StepSays};
+
+// Where letters lead, and what the transitions on the way amount to.
+#[derive(Clone, Copy)]
+pub struct Reached {
+    pub place: usize,
+    pub mark: u16,
+}
+
+// A deterministic automaton with a mark on each transition, and at most ROOM places.
+pub trait Automaton<const ROOM: usize>: Copy {
+    // Its places, letters and targets, and the place where each run begins.
+    ghost system: { Self → System };
+
+    ghost start: { Self → ℕ };
+
+    // The mark of a transition. Marks are read by tests: what two are joined to passes just the tests that one of the two passes.
+    ghost mark: { Self → Taken → ℕ };
+
+    ghost test: { ℕ → ℕ → Bool };
+
+    ghost join: { ℕ → ℕ → ℕ };
+
+    // Whether the transitions that recur are good.
+    ghost good: { Self → List Taken → Bool };
+
+    fn letters(self) -> u8
+        ensures { result ≡ (system self).letters };
+
+    fn start(self) -> usize
+        ensures { result ≡ start self };
+
+    // The transition of a place by a letter, or none where it is missing.
+    fn step(self, place: usize, letter: usize) -> Option<Reached>
+        requires { (place < (system self).states) × (letter < (system self).letters) }
+        ensures { StepSays (system self) (mark self) place letter result };
+
+    // Two marks as one.
+    fn join(self, one: u16, other: u16) -> u16
+        ensures { result ≡ join one other };
+
+    // What some marks amount to.
+    fn sum(self, marks: &[u16]) -> u16
+        ensures { SumsUp test (λ x. x) marks.now result }
+    {
+        let mut sum = 0;
+        // sum is what the marks so far amount to
+        for mark in marks {
+            sum = self.join(sum, *mark);
+        }
+        sum
+    }
+
+    // Whether the transitions are good that a mark sums up.
+    fn accepts(self, sum: u16) -> bool
+        ensures { (xs : List Taken) → SumsUp test (mark self) xs sum → result ≡ good self xs };
+
+    // No mark passes no test; and joining is what it is said to be.
+    ghost blank: { (i : ℕ) → test i 0 ≡ false };
+
+    ghost joins: { Joins test join };
+
+    // The start is a place, and there is room for the places, which are few.
+    ghost begins: { (a : Self) → start a < (system a).states };
+
+    ghost fits: { (a : Self) → ((system a).states ≤ ROOM) × (ROOM ≤ max_rows) };
+}

@@ -1,5 +1,0 @@
--- `records::with_last` meets its contract, in both cases.
-use Rattle.records.proofs.with_last.Goals as goal
-
-pub returns-then-goes : goal.returns-then-goes
-returns-then-goes c = rw c.if-goes.true
