@@ -47,7 +47,8 @@ fn rows_at(home: u16, n: usize, pairs: u32) -> u32
     }
 }
 
-// The figures, from each state's home and the set of pairs that count there, state by state.
+// The figures, from each state's home and the set of pairs that count there, state by state. The arrays have room for the most states, as there is
+// no heap, and n of them are surveyed.
 fn sum_up(
     n: usize,
     homes: &[u16; MAX_STATES as usize],

@@ -19,7 +19,7 @@ pub(crate) struct Lent<'a> {
     pub records: &'a mut [u32],
 }
 
-// Writes the source states of n rows, and their record numbers in place of their keys.
+// Writes the source states of n rows, and their record numbers in place of their keys. The lent arrays may be longer than the rows.
 fn unpack(n: usize, keys: &mut [u32], sources: &mut [u8])
     requires { (n ≤ max_rows) × (n ≤ length keys.old) × (n ≤ length sources.old) × ((i : ℕ) → i < n → source_in (get_or keys.old i 0) < 256) }
     ensures { Unpacked n keys.old keys.new sources.old sources.new }
