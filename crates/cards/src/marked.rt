@@ -23,7 +23,7 @@ pub(crate) const ROWS: usize = 4096;
 
 pub(crate) const CELLS: usize = 65536;
 
-// The arrays of a translation.
+// The arrays of a translation, side by side, as the translator is lent them.
 #[derive(Drop)]
 pub(crate) struct Arrays<const ROWS: usize, const CELLS: usize> {
     pub targets: [u16; CELLS],

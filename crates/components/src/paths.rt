@@ -67,7 +67,7 @@ fn smallest(states: &[u16]) -> u16
 }
 
 // That a search is under way (`SearchedIn`) is said by three methods: it is a fact about the system and both structs, of which no one can hold the
-// others and lend two of its fields at once.
+// others and lend two of its fields at once. That there is a part (`0 < parts`) is no field: between two searches there is none.
 impl<'a> Open<'a> {
     // Reads on from q, up to the first letter that leads to a state not yet met.
     fn scan(&self, system: System, states: &States, q: usize) -> Reading

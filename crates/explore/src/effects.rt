@@ -55,7 +55,8 @@ fn write_each<R: Rule>(memory: u32, row: &[u32], effects: &mut [u32])
 
 // Writes the effects of the codes of a row on its memory, and gives the stride: letter a has effect number a · stride. It is 0 where one effect
 // serves for all letters, else 1: a number and no flag, so that reading a letter's effect has no branch. Without a stride,
-// random tables take 0.84 of the tuned side's time instead of 0.57 (docs/DECISIONS.md, "The effects of a row's marks before its letters").
+// random tables take 0.84 of the tuned side's time instead of 0.57, and two of them miss the bar of 1.0 (docs/DECISIONS.md, "The effects of a row's
+// marks before its letters").
 pub(crate) fn write_effects<R: Rule>(memory: u32, row: &[u32], effects: &mut [u32]) -> usize
     requires { (0 < length row.now) × (length row.now ≤ length effects.old) }
     ensures { EffectsOn R.effect memory (length row.now) result row.now effects.new }

@@ -12,6 +12,7 @@ pub(crate) struct Index<const SLOTS: usize, const ROOM: usize> {
     pub links: [u16; ROOM],
     ghost slots: { length heads ≡ SLOTS },
     ghost room: { length links ≡ ROOM },
+    ghost some_slots: { 0 < SLOTS },
 }
 
 // The slot of a key, by the upper bits of its product with a large odd number.
@@ -25,7 +26,7 @@ fn slot(key: u32, slots: usize) -> usize
 
 impl<const SLOTS: usize, const ROOM: usize> Index<SLOTS, ROOM> {
     // The index of the first n keys.
-    pub fn of(n: usize, keys: &[u32]) -> Self
+    pub(crate) fn of(n: usize, keys: &[u32]) -> Self
         requires { (n ≤ max_rows) × (n ≤ length keys.now) × (0 < SLOTS) × (n ≤ ROOM) }
         ensures { Linked n keys.now result.heads result.links }
     {
@@ -41,7 +42,7 @@ impl<const SLOTS: usize, const ROOM: usize> Index<SLOTS, ROOM> {
     }
 
     // The place of a key among those that are indexed, however many they are.
-    pub fn find(&self, key: u32, keys: &[u32]) -> Option<usize>
+    pub(crate) fn find(&self, key: u32, keys: &[u32]) -> Option<usize>
         requires { (n : ℕ) × (n ≤ length keys.now) × Linked n keys.now self.now.heads self.now.links }
         ensures { (n : ℕ) → Linked n keys.now self.now.heads self.now.links → Finds n key keys.now result }
     {
@@ -58,8 +59,8 @@ impl<const SLOTS: usize, const ROOM: usize> Index<SLOTS, ROOM> {
     }
 
     // Adds the key of number n.
-    pub fn add(&mut self, key: u32, n: usize)
-        requires { (n < max_rows) × (0 < SLOTS) × (n < ROOM) }
+    pub(crate) fn add(&mut self, key: u32, n: usize)
+        requires { (n < max_rows) × (n < ROOM) }
         ensures { KeyIndexed key n self.old.heads self.new.heads self.old.links self.new.links }
     {
         let s = slot(key, SLOTS);

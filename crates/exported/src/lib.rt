@@ -24,7 +24,7 @@ use survey::find_components;
 use tables::{check_table, letters_of};
 use translate::translate_table;
 
-// What a translation gives: the refusal or 0, and the number of rows, 0 on a refusal.
+// What a translation gives, in numbers for C: the refusal or 0, and the number of rows, 0 on a refusal.
 #[repr(C)]
 #[derive(Clone, Copy)]
 pub struct Translation {
@@ -46,7 +46,8 @@ impl From<Result<usize, Refusal>> for Translation {
     }
 }
 
-// What a forecast gives: the refusal or 0, and the figures, 0 on a refusal: the most rows, and the most pairs that count in one component.
+// What a forecast gives, in numbers for C: the refusal or 0, and the figures, 0 on a refusal: the most rows, and the most pairs that count in one
+// component.
 #[repr(C)]
 #[derive(Clone, Copy)]
 pub struct Forecast {
@@ -74,7 +75,7 @@ impl From<Result<forecast::Forecast, Refusal>> for Forecast {
     }
 }
 
-// A judge's answer as two numbers (RULES, "Judges"): 0 accepts, 1 rejects, 2 stops with the letters read, 3 refused with the number.
+// A judge's answer as two numbers for C (RULES, "Judges"): 0 accepts, 1 rejects, 2 stops with the letters read, 3 refused with the number.
 #[repr(C)]
 #[derive(Clone, Copy)]
 pub struct Answer {
@@ -101,7 +102,8 @@ impl From<Judged> for Answer {
     }
 }
 
-// Where the rest of a piece lies: in the lead-in (0) or in the loop (1), from which letter of that piece on, and how many letters it has.
+// Where the rest of a piece lies, in numbers for C: in the lead-in (0) or in the loop (1), from which letter of that piece on, and how many letters
+// it has.
 #[repr(C)]
 #[derive(Clone, Copy)]
 pub struct Rest {

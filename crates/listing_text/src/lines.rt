@@ -8,7 +8,7 @@ use crate::text::{BLANK, LINE_FEED, Writer};
 use rules::limit::NO_ROW;
 use rules::refusal::Refusal;
 
-// The rows of a translated table, as they lie at the front of the four arrays.
+// The rows of a translated table, as they lie at the front of the four arrays that the caller lends.
 #[derive(Clone, Copy)]
 pub(crate) struct Rows<'a> {
     pub count: usize,

@@ -14,8 +14,8 @@ fn required(marks: u16) -> u8
     (marks / 256) as u8
 }
 
-// The same where it stays inside, else none. A number for both, and no branch around the caller's `|=`: whether a transition stays is hard to
-// predict, and with the branch forecasts of tables with 2 letters took up to 1.3 times as long (1,214 ns for 914).
+// The same where it stays inside, else none. The test stands beside the marks and is no `Option` of them, which would be made and taken apart
+// in one step. There is no branch around the caller's `|=`, since whether a transition stays is hard to predict.
 fn kept(marks: u16, stays: bool) -> u8
     ensures { result ≡ pick stays (marks / 256) 0 }
 {
@@ -25,7 +25,7 @@ fn kept(marks: u16, stays: bool) -> u8
 // For each home a set of pairs.
 type Sets = [u8; MAX_STATES as usize];
 
-// Laid-out cells, and each state's home.
+// Laid-out cells, and each state's home: slices side by side, since the caller lends them so.
 #[derive(Clone, Copy)]
 pub(crate) struct Cells<'a> {
     pub states: usize,
@@ -103,7 +103,7 @@ impl<'a> Cells<'a> {
         }
     }
 
-    // The set of q's home, none where that is no state.
+    // The set of q's home, none where that is no state: the number that `homes` has for a state which is not reached, by the promise.
     fn set_of(self, sets: &Sets, q: usize) -> u8
         requires { q < self.states }
         ensures { result ≡ set_at self.entry sets.now q }

@@ -7,7 +7,7 @@ ghost use Rattle.survey.specs.Layouts.{wide_target};
 use rules::limit::{NO_ROW, NO_STATE};
 use tables::mask_of;
 
-// A target as 16 bits.
+// A target as 16 bits. The rules fix both numbers of a missing transition.
 fn wide_target(target: u8) -> u16
     ensures { result ≡ wide_target target }
 {
@@ -28,7 +28,7 @@ pub(crate) fn lay_targets(bytes: &[u8], targets: &mut [u16])
     }
 }
 
-// Lays out the marks, two bytes for each cell.
+// Lays out the marks, two bytes for each cell. How many cells is said apart: half of a length is no plainer.
 pub(crate) fn lay_marks(bytes: &[u8], cells: usize, marks: &mut [u16])
     requires { (2 * cells ≤ length bytes.now) × (cells ≤ length marks.old) }
     ensures { marks.new ≡ over (tabulate cells 0 (λ c. get_or bytes.now (suc (2 * c)) 0 * 256 + get_or bytes.now (2 * c) 0)) marks.old }

@@ -17,7 +17,8 @@ pub(crate) fn bad_sizes(n: u8, m: u8, k: u8) -> bool
     !(states & letters & (k <= MAX_PAIRS))
 }
 
-// Some target is neither a state nor that of a missing transition.
+// Some target is neither a state nor that of a missing transition. The judge's test of 16-bit targets stays beside it: one for any number would
+// have to speak of an order on any type, which is no plainer.
 pub(crate) fn bad_targets(targets: &[u8], n: u8) -> bool
     ensures { result ≡ bad_targets n no_state targets.now }
 {

@@ -9,7 +9,7 @@ ghost use Rattle.translate.specs.Rows.{Unpacked, RowsLeft};
 use explore::codes::SPAN;
 use records::Record;
 
-// The lent arrays, and how many rows there may be.
+// The lent arrays, and how many rows there may be: slices side by side, since the caller lends them so.
 #[derive(Drop)]
 pub(crate) struct Lent<'a> {
     pub capacity: usize,
@@ -24,7 +24,8 @@ fn unpack(n: usize, keys: &mut [u32], sources: &mut [u8])
     requires { (n ≤ max_rows) × (n ≤ length keys.old) × (n ≤ length sources.old) × ((i : ℕ) → i < n → source_in (get_or keys.old i 0) < 256) }
     ensures { Unpacked n keys.old keys.new sources.old sources.new }
 {
-    // by number and not by a zip, since a proof knows nothing of what was written through one; the first i rows are unpacked
+    // by number, as a key is replaced where it is read: of what is written through `iter_mut` a proof knows the length alone; the first i rows
+    // are unpacked
     for i in 0..n {
         let key = keys[i];
         sources[i] = (key / SPAN) as u8;
@@ -35,7 +36,7 @@ fn unpack(n: usize, keys: &mut [u32], sources: &mut [u8])
 
 impl<'a> Lent<'a> {
     // Unpacks the first rows, and clears those after them up to the capacity, in all four arrays.
-    pub fn leave_rows(&mut self, letters: usize, rows: usize)
+    pub(crate) fn leave_rows(&mut self, letters: usize, rows: usize)
         requires { ((letters ≤ max_letters) × (rows ≤ self.old.capacity) × (self.old.capacity ≤ max_rows) × (self.old.capacity * letters ≤ length self.old.targets.now) × (self.old.capacity * letters ≤ length self.old.priorities.now) × (self.old.capacity ≤ length self.old.sources.now) × (self.old.capacity ≤ length self.old.records.now)) × ((i : ℕ) → i < rows → source_in (get_or self.old.records.now i 0) < 256) }
         ensures rows { RowsLeft letters rows self.old.capacity self.old.targets.now self.new.targets.now self.old.priorities.now self.new.priorities.now self.old.sources.now self.new.sources.now self.old.records.now self.new.records.now }
         ensures same { SameLent self.old self.new }
