@@ -31,7 +31,7 @@ struct Verdicts {
     parity: Judged,
 }
 
-// Translates a table, and asks both tables about one word.
+// Translates a table, and asks both tables about one word. The arrays come as the translator is lent them, since the promise is over any.
 fn judge_both(
     table: &[u8],
     capacity: usize,

@@ -4,6 +4,7 @@
 --     pairs_counted                               the pairs that count at a state, by the set of them
 --     FiguresBelow, figures_more                  the figures of the states below q, one state more
 --     added_few, figures_turn                     one turn of the loop: the sum fits, and the figures are those of one state more
+--     front_length, listed_front                  the front of an array has what is listed in it
 --     sets_few, figures_are                       the sets are small, and the figures of all states are the table's
 --     refused_says, forecast_says                 what the call promises
 --     surveyed_few, surveyed_says                 the same of a table that is laid out and surveyed: its sets are small, and what the call promises
@@ -114,25 +115,32 @@ figures_more n hs cs q rows pairs l x =
 larger : (a b : ℕ) → ord_max nat_cmp a b ≡ max b a
 larger a b = search (rules, tests)
 
--- one turn of the loop reads the entries at k of the first n homes and of the first n sets
-module _ (n : ℕ) (hs cs : List ℕ) {k home set added : ℕ}
-    (turn : (k < length (take n hs)) × (k < length (take n cs)) × ((d : ℕ) → home ≡ get_or (take n hs) k d) × ((d : ℕ) → set ≡ get_or (take n cs) k d))
-    (are : added ≡ when (ltb home n) (factorial (ones set))) (few : (q : ℕ) → q < n → ones (get_or cs q 0) ≤ max_pairs)
+-- one turn of the loop reads the entries at k of the homes and of the sets
+module _ (hs cs : List ℕ) {k home set added : ℕ}
+    (turn : (k < length hs) × (k < length cs) × ((d : ℕ) → home ≡ get_or hs k d) × ((d : ℕ) → set ≡ get_or cs k d))
+    (are : added ≡ when (ltb home (length hs)) (factorial (ones set))) (few : (q : ℕ) → q < length hs → ones (get_or cs q 0) ≤ max_pairs)
   where
-    below : k < n
-    below = omega (arith, turn.0, length-take n hs)
+    abbrev n : ℕ
+    n = length hs
 
     pub added_is : added ≡ rows_at n hs cs k
-    added_is = rw (are, turn.2 0, turn.3 0, get_or-take n hs k 0 below, get_or-take n cs k 0 below)
+    added_is = rw (are, turn.2 0, turn.3 0)
 
     pub added_few : n ≤ max_states → (rows pairs : ℕ) → FiguresBelow n hs cs k rows pairs → rows + added ≤ 46080
-    added_few ln rows pairs x = omega (arith, x.few_rows, added_is, below, rows_few n hs cs k (few k below))
+    added_few ln rows pairs x = omega (arith, x.few_rows, added_is, turn.0, rows_few n hs cs k (few k turn.0))
 
     pub figures_turn : (rows pairs most : ℕ) → most ≡ ord_max nat_cmp pairs (ones set) → FiguresBelow n hs cs k rows pairs
         → FiguresBelow n hs cs (k + 1) (rows + added) most
-    figures_turn rows pairs most e x = rw (added_is, e, turn.3 0, get_or-take n cs k 0 below, larger) (figures_more n hs cs k rows pairs (few k below) x)
+    figures_turn rows pairs most e x = rw (added_is, e, turn.3 0, larger) (figures_more n hs cs k rows pairs (few k turn.0) x)
 
 -- ---- what was surveyed
+module _ (n : ℕ) (f : ℕ → ℕ) (xs : List ℕ) (x : Listed n f xs) where
+  pub front_length : length (take n xs) ≡ n
+  front_length = omega (arith, length-take n xs, x.enough)
+
+  pub listed_front : Listed n f (take n xs)
+  listed_front = record { enough = omega (arith, front_length); entry = λ q l. get_or-take n xs q 0 l ∙ x.entry q l }
+
 module _ (t : Table) (hs cs : List ℕ) (hl : Listed t.states (component_from (system_of t) t.start) hs)
     (cl : Listed t.states (λ q. pick (reaches (system_of t) t.start q) (counted_pairs t q) 0) cs)
   where
@@ -191,8 +199,19 @@ module _ (bs ts ts' ms ms' hs hs' cs cs' : List ℕ) {n m start : ℕ} {r : Bool
     survey : Listed t.states (component_from (system_of t) t.start) hs' × Listed t.states (λ q. pick (reaches (system_of t) t.start q) (counted_pairs t q) 0) cs'
     survey = surveyed_reached good table (omega (arith, good.few_states)) (omega (arith, good.few_states)) kh kc reached
 
-    pub surveyed_few : (n ≤ max_states) × ((q : ℕ) → q < n → ones (get_or cs' q 0) ≤ max_pairs)
-    surveyed_few = rw table.states (good.few_states, sets_few t hs' cs' survey.0 survey.1 good.few_pairs)
+    homes : Listed t.states (component_from (system_of t) t.start) (take t.states hs')
+    homes = listed_front _ _ hs' survey.0
 
-    pub surveyed_says : {rows pairs : ℕ} → FiguresSay n hs' cs' rows pairs → ForecastSays bs 0 rows pairs × ForecastMeans bs 0 rows pairs
-    surveyed_says f = forecast_says (sym formed) (figures_are t hs' cs' survey.0 survey.1 (rw table.states at f))
+    sets : Listed t.states (λ q. pick (reaches (system_of t) t.start q) (counted_pairs t q) 0) (take t.states cs')
+    sets = listed_front _ _ cs' survey.1
+
+    many : length (take n hs') ≡ t.states
+    many = rw table.states (front_length _ _ hs' survey.0)
+
+    pub surveyed_few : (length (take n hs') ≤ max_states) × (length (take n hs') ≤ length (take n cs'))
+        × ((q : ℕ) → q < length (take n hs') → ones (get_or (take n cs') q 0) ≤ max_pairs)
+    surveyed_few = rw (many, table.states) (good.few_states, sets.enough, sets_few t _ _ homes sets good.few_pairs)
+
+    pub surveyed_says : {rows pairs : ℕ} → FiguresSay (length (take n hs')) (take n hs') (take n cs') rows pairs
+        → ForecastSays bs 0 rows pairs × ForecastMeans bs 0 rows pairs
+    surveyed_says f = forecast_says (sym formed) (figures_are t _ _ homes sets (rw (many, table.states) at f))

@@ -48,22 +48,17 @@ fn rows_at(home: u16, n: usize, pairs: u32) -> u32
     }
 }
 
-// The figures, from each state's home and the set of pairs that count there, state by state. The arrays have room for the most states, as there is
-// no heap, and n of them are surveyed.
-fn sum_up(
-    n: usize,
-    homes: &[u16; MAX_STATES as usize],
-    counted: &[u8; MAX_STATES as usize],
-) -> Forecast
-    requires { (n ≤ max_states) × ((q : ℕ) → q < n → ones (get_or counted.now q 0) ≤ max_pairs) }
-    ensures { FiguresSay n homes.now counted.now result.rows result.pairs }
+// The figures, from each state's home and the set of pairs that count there, state by state.
+fn sum_up(homes: &[u16], counted: &[u8]) -> Forecast
+    requires { (length homes.now ≤ max_states) × (length homes.now ≤ length counted.now) × ((q : ℕ) → q < length homes.now → ones (get_or counted.now q 0) ≤ max_pairs) }
+    ensures { FiguresSay (length homes.now) homes.now counted.now result.rows result.pairs }
 {
     let mut rows = 0;
     let mut most = 0;
     // the figures are those of the states so far
-    for (home, set) in homes[..n].iter().zip(&counted[..n]) {
+    for (home, set) in homes.iter().zip(counted) {
         let pairs = set.count_ones();
-        rows += rows_at(*home, n, pairs);
+        rows += rows_at(*home, homes.len(), pairs);
         most = most.max(pairs);
     }
     Forecast {
@@ -91,5 +86,6 @@ pub fn forecast_table(table: &[u8]) -> Result<Forecast, Refusal>
         &mut homes,
         &mut counted,
     );
-    Ok(sum_up(laid.states, &homes, &counted))
+    let n = laid.states;
+    Ok(sum_up(&homes[..n], &counted[..n]))
 }

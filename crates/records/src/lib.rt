@@ -32,7 +32,7 @@ impl PairNumber {
     {
         let i = self.0;
         let bit = 1u32 << (i % 16);
-        let set = 2 * (mask as u32);
+        let set = 2 * u32::from(mask);
         (i < 16) & (set & bit != 0)
     }
 }
@@ -146,7 +146,7 @@ fn with_first(code: u32, pair: PairNumber) -> u32
     requires { (code < 32768) × (pair.0 < base) }
     ensures { result ≡ pair.0 + base * code }
 {
-    pair.0 as u32 + 8 * code
+    u32::from(pair.0) + 8 * code
 }
 
 // The code with the pair in the last place, the others one place nearer to the front.
@@ -154,7 +154,7 @@ fn with_last(code: u32, pair: PairNumber) -> u32
     requires { (code < 262144) × (pair.0 < base) }
     ensures { result ≡ code / base + 32768 * pair.0 }
 {
-    code / 8 + 32768 * pair.0 as u32
+    code / 8 + 32768 * u32::from(pair.0)
 }
 
 // The number with the pair as one more digit; the number itself for no pair.
@@ -165,6 +165,6 @@ fn with_digit(number: u32, pair: PairNumber) -> u32
     if pair.0 == 0 {
         number
     } else {
-        10 * number + pair.0 as u32
+        10 * number + u32::from(pair.0)
     }
 }

@@ -14,14 +14,6 @@ fn required(marks: u16) -> u8
     (marks / 256) as u8
 }
 
-// The same where it stays inside, else none. The test stands beside the marks and is no `Option` of them, which would be made and taken apart
-// in one step. There is no branch around the caller's `|=`, since whether a transition stays is hard to predict.
-fn kept(marks: u16, stays: bool) -> u8
-    ensures { result ≡ pick stays (marks / 256) 0 }
-{
-    if stays { required(marks) } else { 0 }
-}
-
 // For each home a set of pairs.
 type Sets = [u8; MAX_STATES as usize];
 
@@ -47,6 +39,16 @@ impl<'a> Cells<'a> {
         target < self.states && self.homes[target] == home
     }
 
+    // The required marks of a transition that leaves a home: none where it leads to another one.
+    fn required_inside(self, home: u16, target: u16, marks: u16) -> u8
+        ensures { result ≡ pick (ltb target self.entry.states && eqb (get_or self.entry.homes.now target 0) home) (marks / 256) 0 }
+    {
+        if !self.is_home(home, target) {
+            return 0;
+        }
+        required(marks)
+    }
+
     // The pairs that the transitions of q make count which stay at its home.
     fn pairs_of_state(self, q: usize) -> u8
         requires { q < self.states }
@@ -58,7 +60,7 @@ impl<'a> Cells<'a> {
         let mut found = 0;
         // found has the pairs that the letters so far make count
         for (target, marks) in self.targets[first..end].iter().zip(&self.marks[first..end]) {
-            found |= kept(*marks, self.is_home(home, *target));
+            found |= self.required_inside(home, *target, *marks);
         }
         found
     }

@@ -64,7 +64,8 @@ pub fn lay_table(table: &[u8], targets: &mut [u16], marks: &mut [u16]) -> Result
     Ok(laid)
 }
 
-// The sizes are those of a table, and the arrays have room.
+// The sizes are those of a table, and the arrays have room. Six numbers: of four arrays, of which two are lent to be written, only how long they are
+// is asked.
 fn survey_fits(
     states: usize,
     letters: usize,
@@ -75,7 +76,7 @@ fn survey_fits(
 ) -> bool
     ensures { result ≡ survey_fits states letters targets marks homes counted }
 {
-    if (states > MAX_STATES as usize) | (letters > MAX_LETTERS as usize) {
+    if (usize::from(MAX_STATES) < states) | (usize::from(MAX_LETTERS) < letters) {
         return false;
     }
     let cells = states * letters;

@@ -96,7 +96,7 @@ pub fn check_table<'a>(table: &'a [u8]) -> Result<Table<'a>, Refusal>
     if check::bad_sizes(n, m, k) {
         return Err(Refusal::Sizes);
     }
-    let cells = n as usize * m as usize;
+    let cells = usize::from(n) * usize::from(m);
     let length = HEADER_SIZE + 3 * cells;
     if table.len() < length {
         return Err(Refusal::Short);

@@ -4,4 +4,4 @@ use Rattle.forecast.proofs.Counting.{FiguresBelow}
 use Rattle.forecast.proofs.sum_up.Given as goal
 
 abbrev pub invariant-loop-home : goal.invariant-loop-home
-invariant-loop-home l = FiguresBelow l.n l.homes l.counted (length l.yielded) l.rows l.most
+invariant-loop-home l = FiguresBelow (length l.homes) l.homes l.counted (length l.yielded) l.rows l.most

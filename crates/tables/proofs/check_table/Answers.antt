@@ -12,31 +12,31 @@ returns-then-bad_sizes-clause-says c = sizes_bad _ (le-ltb _ _ c.if-table-lt-HEA
 
 pub returns-then-table-length-clause-says : goal.returns-then-table-length-clause-says
 returns-then-table-length-clause-says c =
-    cells_short _ (le-ltb _ _ c.if-table-lt-HEADER_SIZE.false) (sym c.bad_sizes.ensures ∙ c.if-bad_sizes.false) (lt-ltb _ _ c.if-table-length.true)
+    cells_short _ (le-ltb _ _ c.if-table-lt-HEADER_SIZE.false) (sym c.bad_sizes.ensures ∙ c.if-bad_sizes.false) (lt-ltb _ _ (rw (c.from.ensures, c.from-2.ensures) at c.if-table-length.true))
 
 pub returns-then-length-table-clause-says : goal.returns-then-length-table-clause-says
 returns-then-length-table-clause-says c =
-    cells_long _ (le-ltb _ _ c.if-table-lt-HEADER_SIZE.false) (sym c.bad_sizes.ensures ∙ c.if-bad_sizes.false) (le-ltb _ _ c.if-table-length.false)
-    (lt-ltb _ _ c.if-length-table.true)
+    cells_long _ (le-ltb _ _ c.if-table-lt-HEADER_SIZE.false) (sym c.bad_sizes.ensures ∙ c.if-bad_sizes.false) (le-ltb _ _ (rw (c.from.ensures, c.from-2.ensures) at c.if-table-length.false))
+    (lt-ltb _ _ (rw (c.from.ensures, c.from-2.ensures) at c.if-length-table.true))
 
 pub returns-then-n-table-clause-says : goal.returns-then-n-table-clause-says
 returns-then-n-table-clause-says c =
-    start_bad _ (le-ltb _ _ c.if-table-lt-HEADER_SIZE.false) (sym c.bad_sizes.ensures ∙ c.if-bad_sizes.false) (le-ltb _ _ c.if-table-length.false)
-    (le-ltb _ _ c.if-length-table.false) (le-leb _ _ c.if-n-table.true)
+    start_bad _ (le-ltb _ _ c.if-table-lt-HEADER_SIZE.false) (sym c.bad_sizes.ensures ∙ c.if-bad_sizes.false) (le-ltb _ _ (rw (c.from.ensures, c.from-2.ensures) at c.if-table-length.false))
+    (le-ltb _ _ (rw (c.from.ensures, c.from-2.ensures) at c.if-length-table.false)) (le-leb _ _ c.if-n-table.true)
 
 pub returns-then-wrong_target-clause-says : goal.returns-then-wrong_target-clause-says
 returns-then-wrong_target-clause-says c =
-    rw c.if-wrong_target.true at (cells_judged _ (le-ltb _ _ c.if-table-lt-HEADER_SIZE.false) (sym c.bad_sizes.ensures ∙ c.if-bad_sizes.false) (le-ltb _ _ c.if-table-length.false)
-    (le-ltb _ _ c.if-length-table.false) _ _ (lt-leb _ _ c.if-n-table.false) c.bad_targets-wrong_target.ensures c.bad_marks-wrong_marks.ensures)
+    rw c.if-wrong_target.true at (cells_judged _ (le-ltb _ _ c.if-table-lt-HEADER_SIZE.false) (sym c.bad_sizes.ensures ∙ c.if-bad_sizes.false) (le-ltb _ _ (rw (c.from.ensures, c.from-2.ensures) at c.if-table-length.false))
+    (le-ltb _ _ (rw (c.from.ensures, c.from-2.ensures) at c.if-length-table.false)) _ _ (lt-leb _ _ c.if-n-table.false) (rw (c.from.ensures, c.from-2.ensures) at c.bad_targets-wrong_target.ensures) (rw (c.from.ensures, c.from-2.ensures) at c.bad_marks-wrong_marks.ensures))
 
 pub returns-then-wrong_marks-clause-says : goal.returns-then-wrong_marks-clause-says
 returns-then-wrong_marks-clause-says c =
-    rw (c.if-wrong_target.false, c.if-wrong_marks.true) at (cells_judged _ (le-ltb _ _ c.if-table-lt-HEADER_SIZE.false) (sym c.bad_sizes.ensures ∙ c.if-bad_sizes.false) (le-ltb _ _ c.if-table-length.false)
-    (le-ltb _ _ c.if-length-table.false) _ _ (lt-leb _ _ c.if-n-table.false) c.bad_targets-wrong_target.ensures c.bad_marks-wrong_marks.ensures)
+    rw (c.if-wrong_target.false, c.if-wrong_marks.true) at (cells_judged _ (le-ltb _ _ c.if-table-lt-HEADER_SIZE.false) (sym c.bad_sizes.ensures ∙ c.if-bad_sizes.false) (le-ltb _ _ (rw (c.from.ensures, c.from-2.ensures) at c.if-table-length.false))
+    (le-ltb _ _ (rw (c.from.ensures, c.from-2.ensures) at c.if-length-table.false)) _ _ (lt-leb _ _ c.if-n-table.false) (rw (c.from.ensures, c.from-2.ensures) at c.bad_targets-wrong_target.ensures) (rw (c.from.ensures, c.from-2.ensures) at c.bad_marks-wrong_marks.ensures))
 
 pub invariant_of-result : goal.invariant_of-result
 invariant_of-result c = record {
   has_header = c.if-table-lt-HEADER_SIZE.false;
-  well_formed = sym (rw (c.if-wrong_target.false, c.if-wrong_marks.false) at (cells_judged _ (le-ltb _ _ c.if-table-lt-HEADER_SIZE.false) (sym c.bad_sizes.ensures ∙ c.if-bad_sizes.false) (le-ltb _ _ c.if-table-length.false)
-      (le-ltb _ _ c.if-length-table.false) _ _ (lt-leb _ _ c.if-n-table.false) c.bad_targets-wrong_target.ensures c.bad_marks-wrong_marks.ensures));
+  well_formed = sym (rw (c.if-wrong_target.false, c.if-wrong_marks.false) at (cells_judged _ (le-ltb _ _ c.if-table-lt-HEADER_SIZE.false) (sym c.bad_sizes.ensures ∙ c.if-bad_sizes.false) (le-ltb _ _ (rw (c.from.ensures, c.from-2.ensures) at c.if-table-length.false))
+      (le-ltb _ _ (rw (c.from.ensures, c.from-2.ensures) at c.if-length-table.false)) _ _ (lt-leb _ _ c.if-n-table.false) (rw (c.from.ensures, c.from-2.ensures) at c.bad_targets-wrong_target.ensures) (rw (c.from.ensures, c.from-2.ensures) at c.bad_marks-wrong_marks.ensures)));
 }

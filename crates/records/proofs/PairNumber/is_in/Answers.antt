@@ -4,4 +4,4 @@ use Rattle.records.proofs.Packing.{marked_masked}
 use Rattle.records.proofs.PairNumber.is_in.Goals as goal
 
 pub returns : goal.returns
-returns c = marked_masked c.args.mask c.args.self.0 (omega arith)
+returns c = rw c.from-set.ensures (marked_masked c.args.mask c.args.self.0 (omega arith))

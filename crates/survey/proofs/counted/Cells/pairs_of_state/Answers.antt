@@ -30,4 +30,4 @@ loop-target-preserved c =
     let below : k < row = omega (arith, t.0, length-take row (drop first ts)) in
     let target = t.2 no_row ∙ row_entry ts first row k no_row below in
     let marks = t.3 0 ∙ row_entry x.marks.now first row k 0 below in
-    rw (length_push, c.kept-found.ensures, c.is_home.ensures, marks, target) (counted_more (stays_in x.states m ts x.homes.now) (required_in m x.marks.now) q k i.found _ i.invariant (λ j. refl))
+    rw (length_push, c.required_inside-found.ensures, marks, target) (counted_more (stays_in x.states m ts x.homes.now) (required_in m x.marks.now) q k i.found _ i.invariant (λ j. refl))
