@@ -1,16 +1,17 @@
--- One row more is unpacked.
---     unpacked_more    one row more
-use mathlib.Core.Path.{◌≡◌, ◌∙◌}
-use mathlib.Core.List.{List}
-use Prim.Native.Nat.{ℕ, ◌+◌, ◌<◌}
+-- Rows that are unpacked.
+--     unpacked_more     one row more
+--     unpacked_front    the first rows of an array, lent as a part of it
+use mathlib.Core.Path.{◌≡◌, sym, ap, ◌∙◌}
+use mathlib.Core.List.{List, ◌++◌}
+use Prim.Native.Nat.{ℕ, ◌+◌, ◌<◌, ◌≤◌}
 use native.Mathlib.Omega.{arith}
 use lib.Dec.{eqb}
-use lib.ListN.{length, get_or, set}
-use lib.Seq.{get_or-set_same, get_or-set_other}
+use lib.ListN.{length, get_or, set, take, drop, get_or-append}
+use lib.Seq.{get_or-set_same, get_or-set_other, get_or-take, length-take-le}
 use borrow.Author.Tests.{eqb-true, eqb-false}
 use Rattle.rules.proofs.Bools.{by}
 use Rattle.explore.specs.Cells.{source_in}
-use Rattle.rules.proofs.Filling.{beyond_set, beyond_then, beyond_wider}
+use Rattle.rules.proofs.Filling.{beyond_set, beyond_then, beyond_wider, over_beyond}
 use Rattle.translate.specs.Keys.{number_in}
 use Rattle.translate.specs.Rows.{Unpacked}
 
@@ -32,3 +33,14 @@ module _ (n : ℕ) (keys keys' ss ss' : List ℕ) (f : Unpacked n keys keys' ss 
         state_rest = beyond_then (beyond_wider (omega arith) f.state_rest) (beyond_set (n + 1) ss' n x (omega arith));
         key_rest = beyond_then (beyond_wider (omega arith) f.key_rest) (beyond_set (n + 1) keys' n y (omega arith));
       }
+
+pub unpacked_front : {n : ℕ} {es ks ss ss' : List ℕ} → n ≤ length es → Unpacked (length (take n es)) (take n es) ks ss ss' → Unpacked n es (ks ++ drop n es) ss ss'
+unpacked_front {n} {es} {ks} room f =
+    let all = length-take-le n es room in
+    let size = f.key_rest.size ∙ all in
+    record {
+      states = λ i l. f.states i (rw all l) ∙ ap source_in (get_or-take n es i 0 l);
+      numbers = λ i l. get_or-append ks (drop n es) 0 i (rw size l) ∙ f.numbers i (rw all l) ∙ ap number_in (get_or-take n es i 0 l);
+      state_rest = rw all at f.state_rest;
+      key_rest = over_beyond ks (ap (λ k. ks ++ drop k es) (sym size)) (omega (arith, size)) room;
+    }

@@ -19,18 +19,16 @@ pub(crate) struct Lent<'a> {
     pub records: &'a mut [u32],
 }
 
-// Writes the source states of n rows, and their record numbers in place of their keys. The lent arrays may be longer than the rows.
-fn unpack(n: usize, keys: &mut [u32], sources: &mut [u8])
-    requires { (n ≤ max_rows) × (n ≤ length keys.old) × (n ≤ length sources.old) × ((i : ℕ) → i < n → source_in (get_or keys.old i 0) < 256) }
-    ensures { Unpacked n keys.old keys.new sources.old sources.new }
+// Writes the source states of rows, and their record numbers in place of their keys.
+fn unpack(keys: &mut [u32], sources: &mut [u8])
+    requires { (length keys.old ≤ length sources.old) × ((i : ℕ) → i < length keys.old → source_in (get_or keys.old i 0) < 256) }
+    ensures { Unpacked (length keys.old) keys.old keys.new sources.old sources.new }
 {
-    // by number, as a key is replaced where it is read: of what is written through `iter_mut` a proof knows the length alone; the first i rows
-    // are unpacked
-    for i in 0..n {
-        let key = keys[i];
-        sources[i] = (key / SPAN) as u8;
-        let order = Record { code: key % SPAN };
-        keys[i] = order.number();
+    // the first i rows are unpacked
+    for (i, key) in keys.iter_mut().enumerate() {
+        sources[i] = (*key / SPAN) as u8;
+        let order = Record { code: *key % SPAN };
+        *key = order.number();
     }
 }
 
@@ -41,7 +39,7 @@ impl<'a> Lent<'a> {
         ensures rows { RowsLeft letters rows self.old.capacity self.old.targets.now self.new.targets.now self.old.priorities.now self.new.priorities.now self.old.sources.now self.new.sources.now self.old.records.now self.new.records.now }
         ensures same { SameLent self.old self.new }
     {
-        unpack(rows, self.records, self.sources);
+        unpack(&mut self.records[..rows], self.sources);
         let from = rows * letters;
         let to = self.capacity * letters;
         self.targets[from..to].fill(0);

@@ -2,6 +2,7 @@
 use native.Mathlib.Nat.{mul-le-mul_right}
 use native.Mathlib.Omega.{arith}
 use Rattle.translate.proofs.Clearing.{cleared_part}
+use Rattle.translate.proofs.Unpacking.{unpacked_front}
 use Rattle.translate.proofs.lent.Lent.leave_rows.Goals as goal
 
 pub returns-clause-rows : goal.returns-clause-rows
@@ -9,8 +10,8 @@ returns-clause-rows c =
     let cells = mul-le-mul_right c.args.letters c.requires.0.1 in
     record {
       states = c.unpack.new.sources;
-      numbers = c.unpack.new.keys;
-      unpacked = c.unpack.ensures;
+      numbers = _;
+      unpacked = unpacked_front (omega arith) c.unpack.ensures;
       target_array = cleared_part cells (omega arith) c.fill.ensures.after;
       priority_array = cleared_part cells (omega arith) c.fill-2.ensures.after;
       source_array = cleared_part (omega arith) (omega arith) c.fill-3.ensures.after;
