@@ -2,7 +2,6 @@
 --     lay_fault_lem, many_cells                  with room for its cells, laying out refuses nothing but the table; and such room for any table
 --     LaidTable t n m start ts ms, laid_table    what is laid out of it: its sizes and its start, and its cells in the arrays
 --     laid_formed                                where something is laid out, the bytes are a well-formed table
---     laid_fit                                   there is room for the cells that are laid out where there is for the table's
 --     surveyed                                   what a survey of them leaves
 --     surveyed_reached                           what a survey of those that the start reaches leaves
 use mathlib.Core.Path.{◌≡◌, refl, sym, ap₂, ◌∙◌}
@@ -71,9 +70,6 @@ module _ {t : Table} {states letters start : ℕ} {ts ms : List ℕ} (good : IsT
 
   abbrev m : ℕ
   m = t.letters
-
-  pub laid_fit : (k : ℕ) → n * m ≤ k → states * letters ≤ k
-  laid_fit k l = rw (x.states, x.letters) l
 
   -- with an entry for each state a survey fits
   fits : (h c : ℕ) → n ≤ h → n ≤ c → survey_fits n m (length ts) (length ms) h c ≡ true

@@ -2,7 +2,7 @@
 --     states_in x, letters_in x, start_in x    numbers: the states, the letters and the start of the table that is laid out
 use Rattle.std.specs.Prelude.{ℕ, Result, Ok, Err}
 use Rattle.rules.specs.declared.refusal.Refusal.{Refusal}
-use Rattle.survey.specs.declared.Laid.{Laid}
+use Rattle.survey.specs.declared.layout.Laid.{Laid}
 
 abbrev pub states_in : Result Laid Refusal → ℕ
 states_in (Ok laid) = laid.states

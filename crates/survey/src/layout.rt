@@ -1,11 +1,21 @@
 // From bytes to two arrays with an entry for each cell. Nothing that follows in a translation looks at the bytes of the cells.
-ghost use Rattle.std.specs.Prelude.{◌≡◌, suc, ◌+◌, ◌*◌, ◌≤◌, length, get_or};
+ghost use Rattle.std.specs.Prelude.{◌≡◌, suc, ◌+◌, ◌*◌, ◌<◌, ◌≤◌, length, get_or};
 ghost use Rattle.rules.specs.Basics.{tabulate};
+ghost use Rattle.rules.specs.Limits.{max_states, max_letters};
 ghost use Rattle.rules.specs.Says.{over};
 ghost use Rattle.survey.specs.Layouts.{wide_target};
 
 use rules::limit::{NO_ROW, NO_STATE};
 use tables::mask_of;
+
+// The sizes and the start of a table that is laid out.
+#[derive(Clone, Copy)]
+pub struct Laid {
+    pub states: usize,
+    pub letters: usize,
+    pub start: usize,
+    pub ghost sizes: { (states ≤ max_states) × (letters ≤ max_letters) × (start < states) },
+}
 
 // A target as 16 bits. The rules fix both numbers of a missing transition.
 fn wide_target(target: u8) -> u16

@@ -4,6 +4,7 @@
 #![tactic(auto)]
 
 use counted::Cells;
+pub use layout::Laid;
 use rules::limit::{MAX_LETTERS, MAX_STATES};
 use rules::refusal::Refusal;
 use tables::check_table;
@@ -35,14 +36,6 @@ pub fn find_components(table: &[u8], out: &mut [u8]) -> Result<(), Refusal>
     homes::find_homes(n, table.letters(), &targets, None, &mut homes);
     homes::narrow(&homes[..n], out);
     Ok(())
-}
-
-// The sizes and the start of a table that is laid out.
-#[derive(Clone, Copy)]
-pub struct Laid {
-    pub states: usize,
-    pub letters: usize,
-    pub start: usize,
 }
 
 // Lays a table out: for each cell its target and its marks, at the front of both arrays.

@@ -1,11 +1,10 @@
 -- A table that is laid out and then written as codes.
 --     parts_surveyed    what is surveyed of laid-out cells, where the sizes fit
---     codes_fit         a table's sizes are in range, its start is a state, and there is room for its codes
 --     codes_encoded     the codes that are written are the table's, and the key is that of its first row
 use mathlib.Core.Path.{◌≡◌, ◌∙◌}
 use mathlib.Core.Bool.{Bool, true}
 use mathlib.Core.List.{List}
-use Prim.Native.Nat.{ℕ, ◌*◌, ◌<◌, ◌≤◌}
+use Prim.Native.Nat.{ℕ, ◌*◌, ◌≤◌}
 use native.Mathlib.Omega.{arith}
 use lib.ListN.{length, take}
 use borrow.Author.Tests.{le-leb}
@@ -17,7 +16,7 @@ use Rattle.survey.specs.Layouts.{IsTable, counted_pairs, counted_in, SurveySays}
 use Rattle.survey.specs.Parts.{Listed}
 use Rattle.survey.proofs.Laying.{laid_homes_at, laid_counted}
 use Rattle.survey.proofs.Surveying.{listed}
-use Rattle.survey.proofs.Tables.{LaidTable, laid_fit}
+use Rattle.survey.proofs.Tables.{LaidTable}
 use Rattle.translate.specs.Cells.{entry_key, TableCodes, CellsEncoded}
 use Rattle.translate.proofs.CellCodes.{first_key, codes_written}
 
@@ -29,10 +28,6 @@ module _ {n m : ℕ} {ts ms hs hs' cs cs' : List ℕ} {r : Bool} (survey : Surve
       (listed n _ hs hs' (omega arith) (rw e at survey.home_array), listed n _ cs cs' (omega arith) (rw e at survey.counted_array))
 
 module _ {t : Table} {ts ms : List ℕ} {n m start : ℕ} (good : IsTable t) (x : LaidTable t n m start ts ms) where
-  pub codes_fit : (k : ℕ) → t.states * t.letters ≤ k → (n ≤ max_states) × (m ≤ max_letters) × (start < n) × (n * m ≤ length ts) × (n * m ≤ length ms) × (n * m ≤ k)
-  codes_fit k room =
-      (omega (arith, x.states, good.few_states), omega (arith, x.letters, good.few_letters), omega (arith, x.states, x.start_state, good.start_state), laid_fit good x _ x.targets.enough, laid_fit good x _ x.marks.enough, laid_fit good x k room)
-
   pub codes_encoded : {cells : List ℕ} {first : ℕ} → CellsEncoded n m start ts ms cells first → (first ≡ entry_key t t.start) × (n * m ≤ length cells) × TableCodes t (take (n * m) cells)
   codes_encoded e =
       let homes = rw (x.states, x.letters) at e.home_array in

@@ -1,6 +1,5 @@
 // A laid-out table as a task for the exploration: the key at which each state is entered, and a code for each cell.
 ghost use Rattle.std.specs.Prelude.{◌≡◌, ◌*◌, ◌<◌, ◌≤◌, length};
-ghost use Rattle.rules.specs.Limits.{max_states, max_letters};
 ghost use Rattle.survey.specs.Parts.{Listed};
 ghost use Rattle.translate.specs.Cells.{Written, CellsEncoded};
 ghost use Rattle.translate.specs.Surveyed.{key_at, code_at, code_in_cell};
@@ -67,7 +66,7 @@ impl<'a> Surveyed<'a> {
 
 // Writes the codes of the cells of a table that is laid out. The result is the key at which its start is entered.
 pub(crate) fn encode_cells(laid: Laid, targets: &[u16], marks: &[u16], cells: &mut [u32]) -> u32
-    requires { (laid.states ≤ max_states) × (laid.letters ≤ max_letters) × (laid.start < laid.states) × (laid.states * laid.letters ≤ length targets.now) × (laid.states * laid.letters ≤ length marks.now) × (laid.states * laid.letters ≤ length cells.old) }
+    requires { (laid.states * laid.letters ≤ length targets.now) × (laid.states * laid.letters ≤ length marks.now) × (laid.states * laid.letters ≤ length cells.old) }
     ensures { CellsEncoded laid.states laid.letters laid.start targets.now marks.now cells.new result }
 {
     let Laid {

@@ -6,11 +6,11 @@ use Rattle.std.proofs.Common.{rules}
 use lib.ListN.{length, length-replicate}
 use Rattle.std.proofs.lemmas.Result.{err_from_is_err_and}
 use Rattle.rules.specs.Tables.{table_of}
-use Rattle.rules.proofs.Refusals.{ArrayFacts, table_facts, array_facts}
+use Rattle.rules.proofs.Refusals.{ArrayFacts, array_facts}
 use Rattle.tables.specs.Parts.{WellFormed}
 use Rattle.survey.proofs.Laying.{is_table}
 use Rattle.survey.proofs.Tables.{LaidTable, lay_fault_lem, laid_table, laid_formed}
-use Rattle.translate.proofs.Encoding.{codes_fit, codes_encoded}
+use Rattle.translate.proofs.Encoding.{codes_encoded}
 use Rattle.translate.proofs.Promises.{kept_few, kept_sources, kept_is, told, translate_refused, translate_short, translate_explored, promised}
 use Rattle.translate.proofs.lent.Lent.translate.Given.{Over}
 use Rattle.translate.proofs.lent.Lent.translate.Goals as goal
@@ -40,7 +40,8 @@ returns-then-short g c =
 pub encode_cells-start-requires : goal.encode_cells-start-requires
 encode_cells-start-requires g c =
     let ok = (goal.at.encode_cells-start-requires g c).In_ok-laid in
-    codes_fit (is_table _ (formed g ok)) (laid g ok) _ (simp length-replicate (c.requires.1 (formed g ok)))
+    let x = laid g ok in
+    rw (x.states, x.letters) (x.targets.enough, x.marks.enough, simp length-replicate (c.requires.1 (formed g ok)))
 
 -- the arrays are long enough
 enough : (g : Over) (c : Else-short g) → let a = c.args.self.now in let m = c.in_ok-laid.laid.letters in m ≡ (table_of c.args.table.now).letters
@@ -57,7 +58,7 @@ leave_rows-requires g c =
     let found = c.find_rows-found in
     let n = kept_is found.result c.unwrap_or.ensures in
     let few = kept_few _ _ _ _ _ c.args.self.now.sources.now _ good x.letters room codes.0 codes.2 found.ensures n in
-    (omega (arith, room, few, x.letters, table_facts _ good, found.auto), kept_sources _ _ _ _ _ c.args.self.now.sources.now _ good x.letters room codes.0 codes.2 found.ensures n)
+    (omega (arith, room, few, c.in_ok-laid.laid.sizes.1, found.auto), kept_sources _ _ _ _ _ c.args.self.now.sources.now _ good x.letters room codes.0 codes.2 found.ensures n)
 
 pub returns : goal.returns
 returns g c =
