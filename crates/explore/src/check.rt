@@ -31,7 +31,7 @@ pub(crate) fn is_unfit(task: Task, cells: &[u32], rows: &Rows) -> bool
     ensures { result ≡ is_unfit task cells.now rows.now.capacity (length rows.now.keys.now) (length rows.now.targets.now) (length rows.now.priorities.now) }
 {
     let m = task.letters;
-    if (m == 0) | ((MAX_LETTERS as usize) < m) {
+    if (m == 0) | (usize::from(MAX_LETTERS) < m) {
         return true;
     }
     let states = cells.len() / m;

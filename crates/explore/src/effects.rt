@@ -27,7 +27,7 @@ impl Rule for Pairs {
         let required = (marks / 256) as u8;
         let next = order.moved(prohibited);
         let priority = order.priority(prohibited, required);
-        SPAN * priority as u32 + next.code
+        SPAN * u32::from(priority) + next.code
     }
 }
 

@@ -46,6 +46,7 @@ impl From<Unexplored> for Refusal {
 }
 
 // The capacity is out of range, or an array is too short: the first two need an entry for each row and letter, the others for each row.
+// It takes lengths and no slices: the arrays are of three kinds, and only how long they are is asked.
 pub fn are_short(
     capacity: usize,
     letters: u8,

@@ -17,4 +17,4 @@ unfolding effect_by_pairs
 returns c =
     let s = c.args in
     let small = moved_small (is_marked (s.marks % 256)) (places s.memory) 6 (places_below 6 s.memory) (omega (arith, places_length 6 s.memory)) in
-    record { is = rw (c.moved-next.ensures, c.priority-priority.ensures); small = omega (arith, c.moved-next.ensures, small, c.priority-priority.type_inv) }
+    record { is = rw (c.moved-next.ensures, c.from.ensures, c.priority-priority.ensures); small = omega (arith, c.moved-next.ensures, small, c.priority-priority.type_inv) }
