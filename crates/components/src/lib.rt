@@ -16,7 +16,7 @@ ghost use Rattle.components.specs.Calls.{cells_fit, components_fit, reach_fits, 
 use system::System;
 
 // The system, if a search for components can begin. It needs five entries of `work` for each state, which a quotient tests since a product
-// could wrap.
+// could wrap. Of `work` and `out`, which are lent to be written, only how long they are is asked.
 fn searchable<'a>(
     states: usize,
     letters: usize,

@@ -36,6 +36,8 @@ pub(crate) struct Progress {
 }
 
 // The rows of an exploration in the lent arrays, of which there may be so many. They are slices, one for each part of a row: the caller lends them.
+// How many are known is no field: each step gives that count back, as the value of an Option, which is none where there is no room. A field would be
+// a second place to say so.
 #[derive(Drop)]
 pub(crate) struct Rows<'a> {
     pub capacity: usize,

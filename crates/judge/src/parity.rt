@@ -24,7 +24,7 @@ fn bad_targets(targets: &[u16], rows: u16) -> bool
     bad
 }
 
-// A parity table with at most ROOM rows.
+// A parity table with at most ROOM rows: slices side by side, since the caller lends them so.
 #[derive(Clone, Copy)]
 pub(crate) struct Parity<'a, const ROOM: usize> {
     rows: usize,
