@@ -75,7 +75,8 @@ pub fn letters_of(table: &[u8]) -> u8
     table[1]
 }
 
-// The two sets of marks of a transition as one mask, the required pairs above the prohibited ones: read, joined and tested at once.
+// The two sets of marks of a transition as one mask, the required pairs above the prohibited ones: read, joined and tested at once. They are parted
+// by `% 256` and `/ 256`, as the definitions part them: `to_le_bytes` is no plainer.
 pub fn mask_of(prohibited: u8, required: u8) -> u16
     ensures { result ≡ required * 256 + prohibited }
 {
