@@ -6,7 +6,7 @@
 --     quiet_below                                                nothing waits beyond what waits last
 --     turn_closed                                                the last part is a component
 --     SearchUnderway, underway_none, underway_more               a search since its arrays were as given
---     searched_none, searched_root, searched_empty, all_found    how a search begins and ends
+--     searched_none, searched_root, all_found                   how a search begins and ends
 --     RootsUnderway, roots_none, roots_more, roots_all           a search from several states
 --     found_from_lem                                             a search from one state finds the components of what it reaches
 use mathlib.Core.Path.{◌≡◌, refl, sym, ap, ◌∙◌}

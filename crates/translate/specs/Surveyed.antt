@@ -1,7 +1,7 @@
 -- A table as the code has it once it is laid out and surveyed, x.
---     key_at x q         number: the key of the row at state q by which a crossing enters
---     code_at x q a      number: the code of the transition of q by a
---     code_in_cell x q c number: the code of the transition in cell c, one of q
+--     key_at x q            number: the key of the row at state q by which a crossing enters
+--     code_at x q a         number: the code of the transition of q by a
+--     code_in_cell x q c    number: the code of the transition in cell c, one of q
 use Rattle.std.specs.Prelude.{ℕ, get_or}
 use Rattle.translate.specs.declared.surveyed.Surveyed.{Surveyed}
 use Rattle.translate.specs.Cells.{code_of, code_in, rising_key}
