@@ -64,7 +64,7 @@ const MIDDLE_ROWS: usize = 1024;
 
 // The answer of a table of any size, or the refusal of the word. It is a call of its own, so that a small table makes no room for large arrays.
 #[inline(never)]
-fn judge_large(table: Parity<'_, MAX_ROWS>, lead: &[u8], looped: &[u8]) -> Result<Judged, Refusal>
+fn judge_larger(table: Parity<'_, MAX_ROWS>, lead: &[u8], looped: &[u8]) -> Result<Judged, Refusal>
     ensures { ParitySays table.entry.rows table.entry.letters table.entry.targets.now table.entry.priorities.now lead.now looped.now (answer_in result) }
 {
     if let Some(middle) = table.within::<MIDDLE_ROWS>() {
@@ -88,7 +88,7 @@ fn answer_or_refusal(
     if let Some(small) = table.within::<SMALL_ROWS>() {
         return judge_word(small, lead, looped);
     }
-    judge_large(table, lead, looped)
+    judge_larger(table, lead, looped)
 }
 
 // The answer of a parity table, from anyone's sizes and arrays.
