@@ -39,7 +39,7 @@ impl<'a> Cells<'a> {
         target < self.states && self.homes[target] == home
     }
 
-    // The required marks of a transition that leaves a home: none where it leads to another one.
+    // The required marks of a transition from a home: none where it leads to another one, or to no state.
     fn required_inside(self, home: u16, target: u16, marks: u16) -> u8
         ensures { result ≡ pick (ltb target self.entry.states && eqb (get_or self.entry.homes.now target 0) home) (marks / 256) 0 }
     {
