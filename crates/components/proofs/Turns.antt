@@ -1,14 +1,14 @@
 -- The turns of a search, over the arrays of the code.
---     entered_stores                                             the four stores that open a state
---     turn_read                                                  all letters of a state are read
---     turn_entered                                               a letter leads to a state that is not yet met
---     heights                                                    how high the stacks are
---     quiet_below                                                nothing waits beyond what waits last
---     turn_closed                                                the last part is a component
---     SearchUnderway, underway_none, underway_more               a search since its arrays were as given
---     searched_none, searched_root, all_found                   how a search begins and ends
---     RootsUnderway, roots_none, roots_more, roots_all           a search from several states
---     found_from_lem                                             a search from one state finds the components of what it reaches
+--     entered_stores                                      the four stores that open a state
+--     turn_read                                           all letters of a state are read
+--     turn_entered                                        a letter leads to a state that is not yet met
+--     heights                                             how high the stacks are
+--     quiet_below                                         nothing waits beyond what waits last
+--     turn_closed                                         the last part is a component
+--     SearchUnderway, underway_none, underway_more        a search since its arrays were as given
+--     searched_none, searched_root, all_found             how a search begins and ends
+--     RootsUnderway, roots_none, roots_more, roots_all    a search from several states
+--     found_from_lem                                      a search from one state finds the components of what it reaches
 use mathlib.Core.Path.{◌≡◌, refl, sym, ap, ◌∙◌}
 use mathlib.Core.Bool.{true, false}
 use mathlib.Core.List.{List}

@@ -25,8 +25,8 @@ fn slot(key: u32, slots: usize) -> usize
 }
 
 impl<const SLOTS: usize, const ROOM: usize> Index<SLOTS, ROOM> {
-    // The index of the first n keys. They are no slice of their own, which is no plainer: the caller would need one method more, as in a proof its
-    // array's later entries are unknown where a part of it is lent.
+    // The index of the first n keys. They are no slice of their own, which is no plainer: the caller would need one method more, as where it lends
+    // a part of its array, the proof no longer knows what the array holds.
     pub(crate) fn of(n: usize, keys: &[u32]) -> Self
         requires { (n ≤ max_rows) × (n ≤ length keys.now) × (0 < SLOTS) × (n ≤ ROOM) }
         ensures { Linked n keys.now result.heads result.links }

@@ -35,8 +35,8 @@ fn orders_of(pairs: u32) -> u32
     ORDERS[pairs as usize]
 }
 
-// What a state adds to the rows: one for each order of its pairs, and nothing where its home is no state, since it is not reached: so the survey's
-// promise has it.
+// What a state adds to the rows: one for each order of its pairs, and nothing where its home is no state. By the survey's promise such a state is
+// not reached.
 fn rows_at(home: u16, n: usize, pairs: u32) -> u32
     requires { pairs ≤ max_pairs }
     ensures { result ≡ when (ltb home n) (factorial pairs) }

@@ -32,7 +32,7 @@ pub(crate) fn find_homes(
     ensures { homes.new ≡ over (tabulate n 0 (home_from from (parity_system n m targets.now))) homes.old }
 {
     let mut work = [0; 5 * MAX_STATES as usize];
-    // both searches are public calls, each with a promise of its own, and this is the one place that chooses: a closure would choose one step before
+    // both searches are public calls with a promise of their own, and it is chosen here alone: with a closure the caller would choose instead
     match from {
         Some(from) => find_components_from(n, m, targets, from, &mut work, homes),
         None => find_components(n, m, targets, &mut work, homes),

@@ -126,8 +126,8 @@ pub fn survey_cells(
     survey(states, letters, None, targets, marks, homes, counted)
 }
 
-// The same for what one state reaches: a state that it does not reach gets the number of the states as its component, and no pairs, as the promise
-// has it of the lent arrays; false also where it is no state.
+// The same for what one state reaches. A state that it does not reach gets the number of the states as its component, and no pairs: so the promise
+// says of the lent arrays. False also where the state to start from is none.
 pub fn survey_reached(
     states: usize,
     letters: usize,
