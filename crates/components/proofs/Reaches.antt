@@ -28,7 +28,8 @@ use Rattle.components.specs.Reaches.{Came, Queued, Untouched, ReachSays}
 use Rattle.components.specs.Meeting.{ReachRoom, QueuedIn, SameArrays, ReadSays}
 use Rattle.components.specs.Calls.{PathFound}
 use Rattle.rules.proofs.Reaching.{kept_along}
-use Rattle.components.proofs.Searches.{same_or, room}
+use Rattle.components.proofs.Placed.{room}
+use Rattle.components.proofs.Stores.{same_or}
 
 module _ (s : System) (from c k a : ℕ) (number queue parent letter : ℕ → ℕ) (x : Queued s from c k a number queue parent letter) where
   pub reached_old : (s.go (queue k) a < s.states → 0 < number (s.go (queue k) a)) → Queued s from c k (a + 1) number queue parent letter

@@ -1,419 +1,263 @@
--- The turns of a search, over the arrays of the code.
---     entered_stores                                      the four stores that open a state
---     turn_read                                           all letters of a state are read
---     turn_entered                                        a letter leads to a state that is not yet met
---     heights                                             how high the stacks are
---     quiet_below                                         nothing waits beyond what waits last
---     turn_closed                                         the last part is a component
---     SearchUnderway, underway_none, underway_more        a search since its arrays were as given
---     searched_none, searched_root, all_found             how a search begins and ends
---     RootsUnderway, roots_none, roots_more, roots_all    a search from several states
---     found_from_lem                                      a search from one state finds the components of what it reaches
+-- What a turn of the search leaves.
+--     progress_none               what is kept where nothing is met and nothing handed over
+--     turn_entered                a state that is not yet met is visited
+--     turn_merged                 the visit in hand is joined to the one before
+--     turn_over                   a component is handed over, and no visit is left
+--     next_small, turn_closed     or it goes back to the one before
 use mathlib.Core.Path.{◌≡◌, refl, sym, ap, ◌∙◌}
-use mathlib.Core.Bool.{true, false}
+use mathlib.Core.Bool.{Bool, true, false, and-false}
+use Rattle.std.specs.Prelude.{None, Some}
+use Rattle.rules.proofs.Reaching.{reaches_step}
+use Rattle.rules.proofs.Bools.{clash}
 use mathlib.Core.List.{List}
 use Prim.Native.Nat.{ℕ, suc, ◌+◌, ◌-◌, ◌<◌, ◌≤◌}
 use native.Mathlib.Numerals.{add-one}
 use native.Mathlib.Omega.{arith}
-use lib.ListN.{length, set, length-set}
-use Rattle.rules.specs.Systems.{System, reaches, component_of}
-use Rattle.rules.proofs.Reaching.{reaches_refl, reaches_trans, reaches_step, kept_along}
-use Rattle.rules.proofs.Bools.{by, clash}
-use Rattle.rules.proofs.Reach.{reaches_view}
-use Rattle.components.specs.declared.paths.Open.{Open}
-use Rattle.components.specs.declared.paths.States.{States}
+use lib.Dec.{ltb}
+use lib.ListN.{length, length-set}
+use borrow.Author.Tests.{ne_eqb, lt-ltb}
+use Rattle.rules.specs.Systems.{System}
+use Rattle.components.specs.declared.walk.Open.{Open}
+use Rattle.components.specs.declared.walk.States.{States}
+use Rattle.components.specs.declared.walk.Visit.{Visit}
 use Rattle.components.specs.Places.{done_number, at, Put}
-use Rattle.components.specs.Searching.{Letters, Searched, LettersRead, RootsSearched}
-use Rattle.components.specs.Turning.{Room, SearchedIn, Entered, PartNamed, Rest, MetFrom, TurnSays, SearchSays}
-use Rattle.components.specs.Calls.{component_from}
-use Rattle.components.proofs.Stores.{put_set, put_as, occurs_less}
-use Rattle.components.proofs.Searches.{same_or, parts_few, waiting_few, back, starts_below, part_read, enter, leave, grown, finish}
+use Rattle.components.specs.Visiting.{IsComponent}
+use Rattle.components.specs.Walking.{with_last, next_at, SearchedIn, KeptIn, entered, numbered, begun, kept, next_is, visit_at, JoinSays, HandSays, Progress, ClosedTest, MetIn, TurnSays, done_in}
+use Rattle.components.specs.Handing.{Holds, Lasts, HandedOver}
+use Rattle.components.proofs.Stores.{put_set, occurs_less, same_or}
+use Rattle.components.proofs.Visits.{agree}
+use Rattle.components.proofs.Closings.{last_component, not_closed, close, grown}
+use Rattle.components.proofs.InArrays.{at_last, below_last, last_state, last_number, few_open, deep, keep_visit, back_visit, count_few, enter_state, led_here, passed_letter, some_before, merged_last}
 
--- a state is opened
-abbrev pub opened : ℕ → Open → Open
-opened q o =
-    record o {
-      stack = record o.stack { now = set o.stack.now o.count q };
-      starts = record o.starts { now = set o.starts.now o.parts o.count };
-      waiting = record o.waiting { now = set o.waiting.now o.left q };
-      count = o.count + 1;
-      parts = o.parts + 1;
-      left = o.left + 1;
-    }
+-- nothing is met, and nothing handed over
+pub progress_none : {T : Type 0} (s : System) (marks : ℕ → ℕ → ℕ) (holds : Holds T) (t : States) (y : T)
+    → Progress s marks holds t t y y
+progress_none s marks holds t y = record { met = λ q l h. h; rest = λ q h. refl; size = refl; same = refl; takes = λ h. h }
 
-abbrev pub numbered : ℕ → ℕ → States → States
-numbered q v t = record t { numbers = record t.numbers { now = set t.numbers.now q v } }
-
-pub entered_stores : (q : ℕ) (o : Open) (t : States) → q < length t.numbers.now → o.count < length o.stack.now → o.parts < length o.starts.now → o.left < length o.waiting.now
-    → Entered q o (opened q o) t (numbered q (o.count + 1) t)
-entered_stores q o t lq lc lp ll =
-    record {
-      number = put_as _ _ q q (o.count + 1) (suc o.count) refl (add-one o.count) (put_set t.numbers.now q (o.count + 1) lq);
-      place = put_set o.stack.now o.count q lc;
-      start = put_set o.starts.now o.parts o.count lp;
-      wait = put_set o.waiting.now o.left q ll;
-      counts = (refl, refl, refl);
-      others = (refl, refl);
-      room = λ s r. record {
-        small = r.small;
-        letters_small = r.letters_small;
-        numbers = simp length-set r.numbers;
-        nexts = r.nexts;
-        components = r.components;
-        stack = simp length-set r.stack;
-        starts = simp length-set r.starts;
-        waiting = simp length-set r.waiting;
-      };
-      fewer = λ z. rw (add-one o.count) (occurs_less t.numbers.now q o.count lq z);
-    }
-
--- the next letter of a state is stored
-abbrev pub next_is : ℕ → ℕ → States → States
-next_is q v t = record t { nexts = record t.nexts { now = set t.nexts.now q v } }
-
-next_room : (s : System) (o : Open) (t : States) (q v : ℕ) → Room s o t → Room s o (next_is q v t)
-next_room s o t q v r =
-    record {
-      small = r.small;
-      letters_small = r.letters_small;
-      numbers = r.numbers;
-      nexts = simp length-set r.nexts;
-      components = r.components;
-      stack = r.stack;
-      starts = r.starts;
-      waiting = r.waiting;
-    }
-
--- fewer parts and fewer that wait
-abbrev pub lowered : ℕ → ℕ → Open → Open
-lowered p l o = record o { parts = p; left = l }
-
-low_room : (s : System) (o : Open) (t : States) (p l : ℕ) → Room s o t → Room s (lowered p l o) t
-low_room s o t p l r =
-    record {
-      small = r.small;
-      letters_small = r.letters_small;
-      numbers = r.numbers;
-      nexts = r.nexts;
-      components = r.components;
-      stack = r.stack;
-      starts = r.starts;
-      waiting = r.waiting;
-    }
-
-module _ (s : System) (q : ℕ) (o : Open) (t : States) (x : SearchedIn s o t) (some : 0 < o.left) (is_last : at o.waiting.now (o.left - 1) ≡ q)
-    (in-last : at o.starts.now (o.parts - 1) < at t.numbers.now q)
+-- ---- what a turn leaves, with the letters of the visit in hand read as far as they can be
+module _ {T : Type 0} (holds : Holds T) (lasts : Lasts holds) (s : System) (marks : ℕ → ℕ → ℕ) (o : Open) (t : States) (v : Visit) (x : SearchedIn s marks o t v)
   where
-    abbrev number : ℕ → ℕ
-    number = at t.numbers.now
+    abbrev numbers : List ℕ
+    numbers = t.numbers.now
 
-    abbrev stack : ℕ → ℕ
-    stack = at o.stack.now
+    -- what is open is not done
+    not_done : (q : ℕ) → at numbers q ≤ o.count → done_in s numbers q ≡ false
+    not_done q l = rw (ne_eqb (at numbers q) done_number (λ e. omega (arith, few_open s marks o t v x, x.room.small))) (and-false (ltb q s.states))
 
-    abbrev start : ℕ → ℕ
-    start = at o.starts.now
+    -- it goes on to a state that is not yet met
+    module _ (byte : v.set < 256) (w : ℕ) (la : v.next < s.letters) (go : s.go v.state v.next ≡ w) (lw : w < s.states) (z : at numbers w ≡ 0) (y : T) where
+      abbrev o₁ : Open
+      o₁ = kept v o
 
-    abbrev waiting : ℕ → ℕ
-    waiting = at o.waiting.now
+      abbrev t₁ : States
+      t₁ = next_is v.state v.next t
 
-    abbrev next : List ℕ
-    next = t.nexts.now
+      abbrev t₂ : States
+      t₂ = numbered w (o.count + 1) t₁
 
-    abbrev out : ℕ → ℕ
-    out = at t.components.now
+      in_arrays : KeptIn s marks o₁ t₁
+      in_arrays = keep_visit s marks o t v x byte
 
-    abbrev y : Searched s o.count o.parts o.left number stack start waiting (at next) out
-    y = x.searched
+      put_path : Put (at o.path.now) (at o₁.path.now) o.depth v.state
+      put_path = put_set o.path.now o.depth v.state (omega (arith, deep s marks o t v x, x.room.path))
 
-    pub q_state : q < s.states
-    q_state = rw is_last at (y.letters.state (o.left - 1) (omega arith))
+      put_next : Put (at t.nexts.now) (at t₁.nexts.now) v.state v.next
+      put_next = put_set t.nexts.now v.state v.next (omega (arith, last_state s marks o t v x, x.room.nexts))
 
-    q_number : number q ≤ o.count
-    q_number = rw is_last at (y.letters.under (o.left - 1) (omega arith))
+      put_number : Put (at numbers) (at t₂.numbers.now) w (o.count + 1)
+      put_number = put_set numbers w (o.count + 1) (omega (arith, x.room.numbers))
 
-    -- every start is at or below q
-    last_part : (k : ℕ) → k < o.parts → start k < number q
-    last_part k h = omega (arith, starts_below s o.count o.parts stack start y.parts k h)
+      led : 0 < o₁.depth → (next_at o₁ t₁ (o₁.depth - 1) < s.letters) × (s.go (at o₁.path.now (o₁.depth - 1)) (next_at o₁ t₁ (o₁.depth - 1)) ≡ w)
+      led h = let e : o.depth + 1 - 1 ≡ o.depth = omega arith in rw (e, put_path.here, put_next.here) (la, go)
 
-    put_next : (v : ℕ) → Put (at next) (at (set next q v)) q v
-    put_next v = put_set next q v (omega (arith, q_state, x.room.nexts))
+      few : o.count < s.states
+      few = count_few s marks o₁ t₁ in_arrays w lw z led
 
-    module _ (r : ℕ) (read : LettersRead s number start q (at next q) o.parts s.letters r) where
-      pub turn_read : TurnSays s o (lowered r (o.left - 1) o) t (next_is q s.letters t)
-      turn_read =
-          let put = put_next s.letters in
-          let z = part_read s o.count o.parts o.left number stack start waiting (at next) out y q q_state (omega arith) q_number (at (set next q s.letters)) s.letters r put read (λ k g lk. last_part k lk) in
+      still_done : (q : ℕ) → done_in s t₂.numbers.now q ≡ done_in s numbers q
+      still_done q =
+          same_or q w
+          (λ e. rw (e, put_number.here, z) (rw (ne_eqb (o.count + 1) done_number (λ f. omega (arith, few, x.room.small)))))
+          (λ n. rw (put_number.others q n))
+
+      pub turn_entered : TurnSays s marks holds o (entered w o₁) t t₂ y y (Some (begun w (o.count + 1)))
+      turn_entered =
           record {
-            after = record {
-              room = low_room s o (next_is q s.letters t) r (o.left - 1) (next_room s o t q s.letters x.room);
-              searched = leave s o.count r o.left number stack start waiting (at (set next q s.letters)) out z (rw (is_last, put.here) (omega arith));
+            on = (enter_state s marks o₁ t₁ in_arrays w lw z led, omega (arith, rw (← add-one o.count) at (occurs_less numbers w o.count (omega (arith, x.room.numbers)) z)));
+            over = λ h. clash refl h;
+            only = λ b c h q l n. same_or q w (λ e. rw (e, ← go) (c v.state (s.go v.state v.next) (h v.state (last_state s marks o t v x) (last_number s marks o t v x).0) (reaches_step s v.state v.next la (rw (← go) at lw)))) (λ d. h q l (rw (put_number.others q d) at n));
+            progress = record {
+              met = λ q l n. same_or q w (λ e. rw (e, put_number.here) (omega arith)) (λ d. rw (put_number.others q d) n);
+              rest = λ q h. put_next.others q (λ e. unmet q e h);
+              size = length-set t.nexts.now v.state v.next;
+              same = refl;
+              takes = λ h. lasts y _ _ s marks _ _ h (length-set t.nexts.now v.state v.next) still_done (λ q d. put_next.others q (λ e. clash (rw e at d) (not_done v.state (last_number s marks o t v x).1)));
             };
-            less = omega (arith, read.fewer);
-            rest = λ i k. refl;
-            met = λ w k n. n;
-            only = λ x h. h;
-            size = refl;
-            same = refl;
           }
+        where
+          unmet : (q : ℕ) → q ≡ v.state → (q < s.states → at t₂.numbers.now q ≡ 0) → ⊥
+          unmet q e h =
+              same_or q w
+              (λ f. omega (arith, h (rw f lw), ap (at t₂.numbers.now) f, put_number.here))
+              (λ n. omega (arith, h (rw e (last_state s marks o t v x)), put_number.others q n, ap (at numbers) e, (last_number s marks o t v x).0))
 
-    module _ (b r : ℕ) (read : LettersRead s number start q (at next q) o.parts b r) (fresh : (b < s.letters) × (s.go q b < s.states) × (number (s.go q b) ≡ 0))
-        (o' : Open) (t' : States) (en : Entered (s.go q b) (lowered r o.left o) o' t t')
-      where
-        abbrev w : ℕ
-        w = s.go q b
-
-        abbrev number' : ℕ → ℕ
-        number' = at t'.numbers.now
-
-        abbrev stack' : ℕ → ℕ
-        stack' = at o'.stack.now
-
-        abbrev start' : ℕ → ℕ
-        start' = at o'.starts.now
-
-        abbrev waiting' : ℕ → ℕ
-        waiting' = at o'.waiting.now
-
-        abbrev next₁ : ℕ → ℕ
-        next₁ = at (set next q b)
-
-        abbrev next₂ : ℕ → ℕ
-        next₂ = at (set next q (b + 1))
-
-        put₂ : Put next₁ next₂ q (b + 1)
-        put₂ = let u = put_next (b + 1) in record { here = u.here; others = λ j d. u.others j d ∙ sym ((put_next b).others j d) }
-
-        joined : Searched s o.count r o.left number stack start waiting next₁ out
-        joined = part_read s o.count o.parts o.left number stack start waiting (at next) out y q q_state (omega arith) q_number next₁ b r (put_next b) read (λ k g lk. last_part k lk)
-
-        -- the last open state leads to the new one
-        led : (i : ℕ) → suc i ≡ o.count → reaches s (stack i) w ≡ true
-        led i e =
-            let here : stack (number q - 1) ≡ q = y.places.placed q q_state (omega arith) q_number in
-            let n = read.some in
-            let f = last_part (r - 1) (omega (arith, read.fewer)) in
-            let b' = back s o.count r stack start joined.parts (number q - 1) i (omega (arith, q_number)) (omega arith) n (omega arith) in
-            reaches_trans s (stack i) q w (rw here at b') (reaches_step s q b fresh.0 fresh.1)
-
-        entered : Searched s (suc o.count) (suc r) (suc o.left) number' stack' start' waiting' next₁ out
-        entered =
-            enter s o.count r o.left number stack start waiting next₁ out joined w fresh.1 fresh.2 x.room.small led
-            number' stack' start' waiting' en.number en.place en.start en.wait
-
-        q_same : number' q ≡ number q
-        q_same = en.number.others q (λ e. omega (arith, ap number e, fresh.2))
-
-        -- the letter that led there is read
-        one_read : LettersRead s number' start' q (next₁ q) (suc r) (b + 1) (suc r)
-        one_read =
-            record {
-              some = omega arith;
-              fewer = omega arith;
-              further = λ h. omega (arith, (put_next b).here);
-              kept = λ k a lk f u v. let e : a ≡ b = omega (arith, (put_next b).here) in rw (e, en.number.here) (omega (arith, entered.parts.within k lk));
-              gone = λ k f u. absurd (omega arith);
-            }
-
-        all_read : Searched s (suc o.count) (suc r) (suc o.left) number' stack' start' waiting' next₂ out
-        all_read = part_read s (suc o.count) (suc r) (suc o.left) number' stack' start' waiting' next₁ out entered q q_state (omega (arith, q_same)) (omega (arith, q_same, q_number)) next₂ (b + 1) (suc r) put₂ one_read (λ k g lk. absurd (omega arith))
-
-        pub turn_entered : TurnSays s o o' t (next_is q (b + 1) t')
-        turn_entered =
-            let e = ap (λ u. u.now) en.others.0 in
-            let f = ap (λ u. u.now) en.others.1 in
-            record {
-              after = record {
-                room = next_room s o' t' q (b + 1) (en.room s (low_room s o t r o.left x.room));
-                searched = rw (e, f, en.counts.0, en.counts.1, en.counts.2, add-one o.count, add-one r, add-one o.left) all_read;
-              };
-              less = omega (arith, read.fewer, en.fewer fresh.2, en.counts);
-              rest = λ i k. ap (λ xs. at xs i) f;
-              met = λ v k n. same_or v w (λ z. rw (z, en.number.here) (omega arith)) (λ d. rw (en.number.others v d) n);
-              only = λ x h v k n. same_or v w (λ z. rw z (reaches_trans s x q w (h q q_state (omega arith)) (reaches_step s q b fresh.0 fresh.1))) (λ d. h v k (rw (en.number.others v d) at n));
-              size = ap length f;
-              same = ap (λ u. u.ghost_name) en.others.1;
-            }
-
--- the last part is a component
-module _ (s : System) (o : Open) (t : States) (x : SearchedIn s o t) (some : 0 < o.parts)
-    (quiet : (j : ℕ) → j < o.left → at t.numbers.now (at o.waiting.now j) ≤ at o.starts.now (o.parts - 1))
-  where
-    abbrev from : ℕ
-    from = at o.starts.now (o.parts - 1)
-
-    whole : Searched s o.count (suc (o.parts - 1)) o.left (at t.numbers.now) (at o.stack.now) (at o.starts.now) (at o.waiting.now) (at t.nexts.now) (at t.components.now)
-    whole = let e : suc (o.parts - 1) ≡ o.parts = omega arith in rw e x.searched
-
-    pub turn_closed : (t' : States) → PartNamed from o t t' → TurnSays s o (record o { count = from; parts = o.parts - 1 }) t t'
-    turn_closed t' h =
-        let st = h.named in
-        let r = x.room in
-        let d = ap (λ u. u.now) h.next in
+    -- it goes back
+    pub turn_merged : (over : s.letters ≤ v.next) (low : v.low < at numbers v.state) (r : Visit) → JoinSays marks (visit_at o t (o.depth - 1)) v r → (y : T)
+        → TurnSays s marks holds o (record o { depth = o.depth - 1 }) t t y y (Some r)
+    turn_merged over low r j y =
         record {
-          after = record {
-            room = record {
-              small = r.small;
-              letters_small = r.letters_small;
-              numbers = rw h.sizes.0 r.numbers;
-              nexts = rw d r.nexts;
-              components = rw h.sizes.1 r.components;
-              stack = r.stack;
-              starts = r.starts;
-              waiting = r.waiting;
-            };
-            searched = rw d (finish s o.count (o.parts - 1) o.left _ _ _ _ _ _ whole r.small quiet h.label h.smallest (at t'.numbers.now) (at t'.components.now) st.number st.out st.number_others st.out_others);
-          };
-          less = omega (arith, st.fewer);
-          rest = λ i z. st.out_others i (λ j f u e. omega (arith, z (rw e (x.searched.places.state j u)), ap (at t'.numbers.now) e, st.number j f u));
-          met = λ q b z. omega (arith, grown s o.count (o.parts - 1) o.left _ _ _ _ _ _ whole r.small quiet h.label h.smallest (at t'.numbers.now) (at t'.components.now) st.number st.out st.number_others st.out_others q b);
-          only = λ v h q b z. same_or (at t.numbers.now q) 0 (λ e. absurd (omega (arith, st.number_others q (λ j f u d. omega (arith, ap (at t.numbers.now) d, x.searched.places.numbered j u))))) (λ d. h q b (omega arith));
-          size = h.sizes.1;
-          same = h.same;
+          on = (merged_last s marks o t v x over low r j, omega (arith, some_before s marks o t v x over low));
+          over = λ h. clash refl h;
+          only = λ b c h. h;
+          progress = progress_none s marks holds t y;
         }
 
--- how high the stacks are while a state is open
-pub heights : (s : System) (o : Open) (t : States) → SearchedIn s o t → 0 < o.count
-    → (0 < o.parts) × (o.parts ≤ s.states) × (o.left ≤ s.states) × (o.count ≤ s.states) × (at o.starts.now (o.parts - 1) < o.count)
-heights s o t x some =
-    let y = x.searched in
-    let f = y.places.few in
-    let p = y.parts.some some in
-    (p, omega (arith, parts_few s o.count o.parts _ _ y.parts), omega (arith, waiting_few s o.count o.parts o.left _ _ _ _ y.letters), f, y.parts.within (o.parts - 1) (omega arith))
+    -- the visit in hand and what was met after it are a component, which is handed over
+    module _ (over : s.letters ≤ v.next) (is_first : v.low ≡ at numbers v.state) (from : ℕ) (is_from : from ≡ v.low - 1) (t' : States) (y y' : T)
+        (h : HandSays holds from v.set o t t' y y')
+      where
+        abbrev d : ℕ
+        d = o.depth
 
--- nothing waits beyond what waits last
-pub quiet_below : (s : System) (c p l v : ℕ) (number start waiting next : ℕ → ℕ) → Letters s c p l number start waiting next → number (waiting (l - 1)) ≤ v
-    → (j : ℕ) → j < l → number (waiting j) ≤ v
-quiet_below s c p l v number start waiting next x h j b =
-    same_or j (l - 1) (λ e. rw e h) (λ d. omega (arith, x.order j (l - 1) (omega arith) (omega arith)))
+        abbrev number : ℕ → ℕ
+        number = at numbers
 
--- ---- the whole search
--- a search since what is known of the states was as without a prime
-pub record SearchUnderway (s : System) (o : Open) (t t' : States) : Type 0 where
-  pub now : SearchedIn s o t'
-  pub rest : Rest s t t'
-  pub met : (q : ℕ) → q < s.states → 0 < at t.numbers.now q → 0 < at t'.numbers.now q
-  pub only : (x : ℕ) → MetFrom s x t → MetFrom s x t'
-  pub size : length t'.components.now ≡ length t.components.now
-  pub same : t'.components.ghost_name ≡ t.components.ghost_name
+        abbrev path : ℕ → ℕ
+        path = with_last d v.state (at o.path.now)
 
-pub underway_none : (s : System) (o : Open) (t : States) → SearchedIn s o t → SearchUnderway s o t t
-underway_none s o t x = record { now = x; rest = λ i h. refl; met = λ q h n. n; only = λ x h. h; size = refl; same = refl }
+        abbrev next : ℕ → ℕ
+        next = with_last d v.next (next_at o t)
 
--- what is not met at the end was not met before, so it has its entry as it was
-rest_then : (s : System) (t t' t'' : States) → Rest s t t' → Rest s t' t'' → ((q : ℕ) → q < s.states → 0 < at t'.numbers.now q → 0 < at t''.numbers.now q) → Rest s t t''
-rest_then s t t' t'' x y met i h =
-    y i h ∙ x i (λ l. same_or (at t'.numbers.now i) 0 (λ e. e) (λ z. absurd (omega (arith, met i l (omega arith), h l))))
+        abbrev low : ℕ → ℕ
+        low = with_last d v.low (at o.lows.now)
 
-pub underway_more : (s : System) (o o' : Open) (t t' t'' : States) → SearchUnderway s o t t' → TurnSays s o o' t' t'' → SearchUnderway s o' t t''
-underway_more s o o' t t' t'' x y =
-    record {
-      now = y.after;
-      rest = rest_then s t t' t'' x.rest y.rest y.met;
-      met = λ q h n. y.met q h (x.met q h n);
-      only = λ v h. y.only v (x.only v h);
-      size = y.size ∙ x.size;
-      same = y.same ∙ x.same;
-    }
+        abbrev found : ℕ → ℕ
+        found = with_last d v.set (at o.sets.now)
 
--- nothing is met yet
-pub searched_none : (s : System) (o : Open) (t : States) → Room s o t → (o.count ≡ 0) × (o.parts ≡ 0) × (o.left ≡ 0)
-    → ((q : ℕ) → q < s.states → (at t.numbers.now q ≡ 0) × (at t.nexts.now q ≡ 0)) → SearchedIn s o t
-searched_none s o t room e z =
-    record {
-      room = room;
-      searched = rw (e.0, e.1, e.2) (record {
-        places = record { few = omega arith; state = λ i h. absurd (omega arith); numbered = λ i h. absurd (omega arith); placed = λ q l h g. absurd (omega arith); done = λ q l h. absurd (omega (arith, z q l)) };
-        parts = record { some = λ h. absurd (omega arith); first = λ h. absurd (omega arith); rising = λ i j f h. absurd (omega arith); within = λ k h. absurd (omega arith); apart = λ k h. absurd (omega arith); forth = λ i h. absurd (omega arith); back = λ i h f. absurd (omega arith) };
-        letters = record { unread = λ q l h. (z q l).1; later = λ q a k l n h. absurd (omega arith); waits = λ q l n h. absurd (omega arith); state = λ j h. absurd (omega arith); over = λ j h. absurd (omega arith); under = λ j h. absurd (omega arith); order = λ i j f h. absurd (omega arith) };
-        found = record { component = λ q l h. absurd (omega (arith, z q l)); closed = λ q a l h. absurd (omega (arith, z q l)) };
-      });
-    }
+        last_is : suc d - 1 ≡ d
+        last_is = omega arith
 
--- no part is left, and nothing waits, where nothing is open
-nothing_open : (s : System) (o : Open) (t : States) → SearchedIn s o t → o.count ≡ 0 → (o.parts ≡ 0) × (o.left ≡ 0)
-nothing_open s o t x e =
-    (omega (arith, parts_few s o.count o.parts _ _ x.searched.parts), omega (arith, waiting_few s o.count o.parts o.left _ _ _ _ x.searched.letters))
+        path_here : path d ≡ v.state
+        path_here = at_last d v.state (at o.path.now)
 
--- the first state of a search is opened
-pub searched_root : (s : System) (root : ℕ) (o o' : Open) (t t' : States) → SearchedIn s o t → o.count ≡ 0 → root < s.states → at t.numbers.now root ≡ 0
-    → Entered root o o' t t' → SearchedIn s o' t'
-searched_root s root o o' t t' x e l z en =
-    let n = nothing_open s o t x e in
-    let a = ap (λ u. u.now) en.others.0 in
-    let b = ap (λ u. u.now) en.others.1 in
-    record {
-      room = en.room s x.room;
-      searched = rw (a, b, en.counts.0, en.counts.1, en.counts.2, add-one o.count, add-one o.parts, add-one o.left) (enter s o.count o.parts o.left _ _ _ _ _ _ x.searched root l z x.room.small (λ i h. absurd (omega arith)) _ _ _ _ en.number en.place en.start en.wait);
-    }
+        over_here : s.letters ≤ next (suc d - 1)
+        over_here = rw (last_is, at_last d v.next (next_at o t)) over
 
--- what is met is done where nothing is open
-pub all_found : (s : System) (o : Open) (t : States) → SearchedIn s o t → o.count ≡ 0
-    → (q : ℕ) → q < s.states → 0 < at t.numbers.now q → at t.components.now q ≡ component_of s q
-all_found s o t x e q l h = x.searched.found.component q l (x.searched.places.done q l (omega arith))
+        first_here : low (suc d - 1) ≡ number (path (suc d - 1))
+        first_here = rw (last_is, path_here, at_last d v.low (at o.lows.now)) is_first
 
--- a search from each state from `lo` up to `hi`
-pub record RootsUnderway (s : System) (lo hi : ℕ) (o : Open) (t t' : States) : Type 0 where
-  pub now : SearchedIn s o t'
-  pub none : o.count ≡ 0
-  pub rest : Rest s t t'
-  pub met : (r : ℕ) → lo ≤ r → r < hi → 0 < at t'.numbers.now r
-  pub only : (x : ℕ) → ((r : ℕ) → lo ≤ r → r < hi → reaches s x r ≡ true) → MetFrom s x t'
-  pub size : length t'.components.now ≡ length t.components.now
-  pub same : t'.components.ghost_name ≡ t.components.ghost_name
+        base_is : number (path (suc d - 1)) - 1 ≡ from
+        base_is = rw (last_is, path_here) (omega (arith, is_first, is_from))
 
-pub roots_none : (s : System) (lo : ℕ) (o : Open) (t : States) → Room s o t → (o.count ≡ 0) × (o.parts ≡ 0) × (o.left ≡ 0)
-    → ((q : ℕ) → q < s.states → (at t.numbers.now q ≡ 0) × (at t.nexts.now q ≡ 0)) → RootsUnderway s lo lo o t t
-roots_none s lo o t room e z =
-    record {
-      now = searched_none s o t room e z;
-      none = e.0;
-      rest = λ i h. refl;
-      met = λ r l h. absurd (omega arith);
-      only = λ x h q l n. absurd (omega (arith, z q l));
-      size = refl;
-      same = refl;
-    }
+        many : length h.members ≡ o.count - (number (path (suc d - 1)) - 1)
+        many = rw base_is h.many
 
-pub roots_more : (s : System) (lo hi : ℕ) (o o' : Open) (t t' t'' : States) → lo ≤ hi → hi < s.states → RootsUnderway s lo hi o t t' → SearchSays s hi o o' t' t''
-    → RootsUnderway s lo (hi + 1) o' t t''
-roots_more s lo hi o o' t t' t'' up l x y =
-    record {
-      now = y.after;
-      none = y.none;
-      rest = rest_then s t t' t'' x.rest y.rest y.met;
-      met = λ r a b. same_or r hi (λ e. rw e y.root_met) (λ d. y.met r (omega arith) (x.met r a (omega arith)));
-      only = λ v h. y.only v (h hi up (omega arith)) (x.only v (λ r a b. h r a (omega arith)));
-      size = y.size ∙ x.size;
-      same = y.same ∙ x.same;
-    }
+        are : (i : ℕ) → i < length h.members → at h.members i ≡ at o.stack.now (number (path (suc d - 1)) - 1 + i)
+        are i l = rw base_is (h.are i l)
 
--- what it leaves
-module _ (s : System) (lo hi : ℕ) (o : Open) (t t' : States) (up : hi ≤ s.states) (x : RootsUnderway s lo hi o t t') where
-  abbrev IsDone : ℕ → Type 0
-  IsDone q = (q < s.states) × (at t'.numbers.now q ≡ done_number)
+        component : IsComponent s marks h.members v.set
+        component =
+            rw (last_is, at_last d v.set (at o.sets.now)) at
+            (last_component s marks o.count (suc d) number (at o.stack.now) path next low found x.searched x.room.small (omega arith) over_here first_here h.members many are)
 
-  reached_done : (r q : ℕ) → lo ≤ r → r < hi → reaches s r q ≡ true → IsDone q
-  reached_done r q a b h =
-      let y = x.now.searched in
-      kept_along s IsDone (λ p a d la u. (u, y.found.closed p a d.0 d.1 la u)) ((reaches_view s r q).0 h).1 (omega arith, y.places.done r (omega arith) (omega (arith, x.none, x.met r a b)))
+        open_still : (i : ℕ) → i < length h.members → (0 < number (at h.members i)) × (number (at h.members i) ≤ o.count)
+        open_still = not_closed s marks o.count (suc d) number (at o.stack.now) path next low found x.searched x.room.small (omega arith) over_here first_here h.members many are
 
-  unmet : (v q : ℕ) → ((r : ℕ) → lo ≤ r → r < hi → reaches s v r ≡ true) → q < s.states → reaches s v q ≡ false → at t'.numbers.now q ≡ 0
-  unmet v q roots lq h = same_or (at t'.numbers.now q) 0 (λ e. e) (λ d. clash (x.only v roots q lq (omega arith)) h)
+        grown_number : (q : ℕ) → q < s.states → number q ≤ at t'.numbers.now q
+        grown_number = grown s marks o.count (suc d) number (at o.stack.now) path next low found x.searched x.room.small (omega arith) over_here first_here h.members many are (at t'.numbers.now) h.done h.others
 
-  pub roots_all : RootsSearched s lo hi t.components.now t'.components.now
-  roots_all =
-      record {
-        size = x.size;
-        found = λ r q a b lq h. all_found s o t' x.now x.none q lq (omega (arith, (reached_done r q a b h).1));
-        rest = λ v q roots lq h. x.rest q (λ b. unmet v q roots lq h);
-        past = λ q l. x.rest q (λ b. absurd (omega arith));
-      }
+        -- a state that is visited still is no member
+        apart : (k : ℕ) → k < d → (i : ℕ) → i < length h.members → at h.members i ≡ at o.path.now k → ⊥
+        apart k l i b e =
+            omega (arith, x.searched.visited.order k d l (omega arith), ap number path_here, ap number (below_last d v.state (at o.path.now) k (λ z. omega arith)), ap number e, h.are i b, x.searched.places.numbered (from + i) (omega (arith, h.many)), ap number (h.are i b), is_first, is_from)
 
--- a search from one state finds the components of what it reaches, and writes nothing else
-pub found_from_lem : (s : System) (root : ℕ) (outs outs' : List ℕ) → RootsSearched s root (root + 1) outs outs'
-    → (q : ℕ) → at outs q ≡ s.states → q < s.states → at outs' q ≡ component_from s root q
-found_from_lem s root outs outs' x q z lq =
-    by
-    (reaches s root q)
-    (λ h. rw h (x.found root q (omega arith) (omega arith) lq h))
-    (λ h. rw h (x.rest root q (λ r a b. let e : r ≡ root = omega arith in rw e (reaches_refl s root)) lq h ∙ z))
+        abbrev o' : Open
+        o' = record o { count = from }
+
+        nexts_kept : (k : ℕ) → k < d → next_at o t' k ≡ next_at o t k
+        nexts_kept k l = h.entries.others (at o.path.now k) (apart k l)
+
+        closed : KeptIn s marks o' t'
+        closed =
+            record {
+              room = record {
+                small = x.room.small;
+                letters_small = x.room.letters_small;
+                numbers = rw h.size x.room.numbers;
+                beyond = λ q l u. h.others q (λ i b e. omega (arith, component.state i b)) ∙ x.room.beyond q l (rw h.size at u);
+                nexts = rw h.entries.size x.room.nexts;
+                stack = x.room.stack;
+                path = x.room.path;
+                lows = x.room.lows;
+                sets = x.room.sets;
+                bytes = x.room.bytes;
+              };
+              searched =
+                  agree s marks from d _ _ _ _ _ _
+                  (rw (base_is, last_is) at
+                  (close s marks o.count (suc d) number (at o.stack.now) path next low found x.searched x.room.small (omega arith) over_here first_here h.members many are (at t'.numbers.now) h.done h.others))
+                  _ _ _ _
+                  (λ k l. sym (below_last d v.state (at o.path.now) k (λ e. omega arith)))
+                  (λ k l. nexts_kept k l ∙ sym (below_last d v.next (next_at o t) k (λ e. omega arith)))
+                  (λ k l. sym (below_last d v.low (at o.lows.now) k (λ e. omega arith)))
+                  (λ k l. sym (below_last d v.set (at o.sets.now) k (λ e. omega arith)));
+            }
+
+        member_done : (i : ℕ) → i < length h.members → done_in s t'.numbers.now (at h.members i) ≡ true
+        member_done i l = rw (lt-ltb (at h.members i) s.states (component.state i l), h.done i l)
+
+        handed : HandedOver h.members (done_in s numbers) (done_in s t'.numbers.now)
+        handed =
+            record {
+              fresh = λ i l. not_done (at h.members i) (open_still i l).1;
+              now = member_done;
+              others = λ q none. rw (h.others q none);
+            }
+
+        progress_closed : Progress s marks holds t t' y y'
+        progress_closed =
+            record {
+              met = λ q l n. omega (arith, grown_number q l);
+              rest = λ q e. h.entries.others q (λ i l f. omega (arith, e (rw f at (component.state i l)), ap (at t'.numbers.now) f, h.done i l));
+              size = h.entries.size;
+              same = h.same;
+              takes = λ z. h.takes s marks (done_in s numbers) (done_in s t'.numbers.now) z component handed;
+            }
+
+        only_closed : (b : ℕ → Bool) → ClosedTest s b → MetIn s b t → MetIn s b t'
+        only_closed b c m q l n =
+            same_or (number q) 0
+            (λ e. absurd (omega (arith, h.others q (λ i k f. omega (arith, (open_still i k).0, ap number f)))))
+            (λ e. m q l (omega arith))
+
+        -- it was the first one
+        pub turn_over : d ≡ 0 → TurnSays s marks holds o o' t t' y y' None
+        turn_over e =
+            record {
+              on = tt;
+              over = λ z. (omega (arith, x.searched.visited.first (omega arith), ap number (ap path (sym e) ∙ path_here), is_first, is_from), e, closed, omega (arith, h.fewer));
+              only = only_closed;
+              progress = progress_closed;
+            }
+
+        first_done : at t'.numbers.now v.state ≡ done_number
+        first_done =
+            let e : from + 0 ≡ number v.state - 1 = omega (arith, is_first, is_from) in
+            let n = last_number s marks o t v x in
+            let l = component.some in
+            let m : at h.members 0 ≡ v.state = h.are 0 l ∙ ap (at o.stack.now) e ∙ x.searched.places.placed v.state (last_state s marks o t v x) n.0 n.1 in
+            rw m at (h.done 0 l)
+
+        pub next_small : 0 < d → (r : Visit) → r ≡ visit_at o' t' (d - 1) → r.next < s.letters
+        next_small some r is = rw (is, nexts_kept (d - 1) (omega arith)) (led_here s marks o t v x some).0
+
+        -- it goes back to the visit before
+        pub turn_closed : 0 < d → (r : Visit) → r ≡ visit_at o' t' (d - 1) → TurnSays s marks holds o (record o' { depth = d - 1 }) t t' y y' (Some (record r { next = r.next + 1 }))
+        turn_closed some r is =
+            let led = led_here s marks o t v x some in
+            let kept_next = nexts_kept (d - 1) (omega arith) in
+            record {
+              on = (rw is (passed_letter s marks (record o' { depth = d - 1 }) t' (visit_at o' t' (d - 1)) (back_visit s marks o' t' closed some) (rw kept_next led.0) (λ l. rw (kept_next, led.1) first_done)), omega (arith, h.fewer));
+              over = λ z. clash refl z;
+              only = only_closed;
+              progress = progress_closed;
+            }

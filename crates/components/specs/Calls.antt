@@ -1,11 +1,10 @@
--- What the crate's calls promise, for all sizes and arrays. A prime marks an array's contents at exit.
+-- What the crate's calls promise, for all sizes and arrays; the promise of `search` is `ComponentsTaken` of `Handing`. A prime marks an array's
+-- contents at exit.
 --     cells_fit n m t                  test: n states and m letters are few enough, and t targets are enough for their cells
 --     components_fit n m ..            test: a search for components can begin: sizes, and the lengths of three arrays: targets, five entries to
 --                                      work in for each state, room for results
 --     ComponentsFound n m ..           claim: the smallest state of each state's component is at the front of `out`, entries past the states
 --                                      untouched; and what these numbers are, in terms of paths
---     component_from s from q          number: the smallest state of q's component where `from` reaches q, else no state: how many there are
---     ComponentsReached n m from ..    claim: these numbers are at the front of `out`, entries past the states untouched
 --     reach_fits n m from t ..         test: a search from a state can begin: sizes, t targets, and the lengths of four arrays
 --     ReachFound n m from ..           claim: exactly the states that `from` reaches are met, each with the place that it was met from and the
 --                                      letter; entries past the states, and past those met, untouched
@@ -15,7 +14,7 @@ use Rattle.std.specs.Prelude.{◌≡◌, Bool, true, false, ◌&&◌, List, ℕ,
 use Rattle.rules.specs.Basics.{pick, tabulate}
 use Rattle.rules.specs.Judges.{parity_system}
 use Rattle.rules.specs.Says.{over}
-use Rattle.rules.specs.Systems.{System, Path, reaches, component_of, ComponentsAre}
+use Rattle.rules.specs.Systems.{System, Path, component_of, ComponentsAre}
 use Rattle.components.specs.Places.{done_number, at}
 use Rattle.components.specs.Reaches.{Queued, Untouched, ReachSays}
 
@@ -29,13 +28,6 @@ pub record ComponentsFound (n m : ℕ) (targets work out out' : List ℕ) (r : B
   pub answer : r ≡ components_fit n m (length targets) (length work) (length out)
   pub array : out' ≡ pick r (over (tabulate n 0 (component_of (parity_system n m targets))) out) out
   pub meaning : r ≡ true → ComponentsAre (parity_system n m targets) (at out')
-
-abbrev pub component_from : System → ℕ → ℕ → ℕ
-component_from s from q = pick (reaches s from q) (component_of s q) s.states
-
-pub record ComponentsReached (n m from : ℕ) (targets work out out' : List ℕ) (r : Bool) : Type 0 where
-  pub answer : r ≡ components_fit n m (length targets) (length work) (length out) && ltb from n
-  pub array : out' ≡ pick r (over (tabulate n 0 (component_from (parity_system n m targets) from)) out) out
 
 abbrev pub reach_fits : ℕ → ℕ → ℕ → ℕ → ℕ → ℕ → ℕ → ℕ → Bool
 reach_fits n m from t a b c d = cells_fit n m t && (leb m 256 && (ltb from n && (leb n a && (leb n b && (leb n c && leb n d)))))

@@ -1,19 +1,24 @@
 // The components of a transition system in time linear in its cells, and all that a state reaches with a path to each, for any number of
-// states below 65,535. It rests on `rules` and knows a system only as an array of targets: the cell of state q and letter a is number
-// q · m + a, and a target that is no state means that there is no transition. `find_components`, `find_components_from`, `find_reached` and
-// `path_to` keep the promises `ComponentsFound`, `ComponentsReached`, `ReachFound` and `PathFound` of this crate, for all sizes and arrays; what
-// does not fit is answered as such.
+// states below 65,535. It rests on `rules`. `search` hands the components of any system that is `Marked` to any `Taker`, each with the marks of its
+// inside transitions. The other calls know a system only as an array of targets: the cell of state q and letter a is number q · m + a, and a target
+// that is no state means that there is no transition. `search`, `find_components`, `find_reached` and `path_to` keep the promises
+// `ComponentsTaken`, `ComponentsFound`, `ReachFound` and `PathFound` of this crate, for all sizes and arrays; what does not fit is answered as such.
 #![tactic(auto)]
 
-mod paths;
+pub mod marked;
+pub mod named;
 mod reach;
 mod system;
+mod walk;
 
 ghost use Rattle.std.specs.Prelude.{◌≡◌, ◌≤◌, length, is_some, unwrap_or, IfSome};
 ghost use Rattle.components.specs.Views.{IsSystem};
-ghost use Rattle.components.specs.Calls.{cells_fit, components_fit, reach_fits, ComponentsFound, ComponentsReached, ReachFound, PathFound};
+ghost use Rattle.components.specs.Handing.{ComponentsTaken};
+ghost use Rattle.components.specs.Calls.{cells_fit, components_fit, reach_fits, ComponentsFound, ReachFound, PathFound};
 
-use system::System;
+use marked::{Marked, Taker};
+use named::Names;
+use system::{LIMIT, System};
 
 // The system, if a search for components can begin. It needs five entries of `work` for each state, which a quotient tests since a product
 // could wrap. Of `work` and `out`, which are lent to be written, only how long they are is asked.
@@ -60,6 +65,32 @@ fn reachable<'a>(
     }
 }
 
+// Hands over the components of all that the states from `from` up to `to` reach, and no others, each with the marks of its inside transitions; false
+// where the sizes or an array do not fit. The arrays have an entry for each state, `work` four; that it has room a quotient tests, since a product
+// could wrap. The entries of the states that are not reached are as they were. What `numbers` and `work` hold afterwards
+// is unspecified; `numbers` is written to its end, so the time is linear in its length too.
+pub fn search<C: Marked, T: Taker>(
+    system: C,
+    from: usize,
+    to: usize,
+    numbers: &mut [u16],
+    work: &mut [u16],
+    entries: &mut [u16],
+    taker: &mut T,
+) -> bool
+    ensures { ComponentsTaken (C.system system) (C.marks system) T.holds from to (length numbers.old) (length work.old) entries.old entries.new taker.old taker.new result }
+{
+    let states = system.states();
+    let arrays = (states <= numbers.len())
+        & ((states <= work.len() / 4) & (states <= entries.len()));
+    let range = (from <= to) & ((to <= states) & arrays);
+    let fits = (states < LIMIT) & ((system.letters() < LIMIT) & range);
+    if fits {
+        walk::search(system, from, to, numbers, work, entries, taker);
+    }
+    fits
+}
+
 // The smallest state of each state's component, in the first entries of `out`; false where the sizes or an array do not fit. What `work`
 // holds afterwards is unspecified. The answer is a `bool`: there is nothing beside it, as what is found lies in the arrays that are lent.
 pub fn find_components(
@@ -74,30 +105,8 @@ pub fn find_components(
     let Some(system) = searchable(states, letters, targets, work.len(), out.len()) else {
         return false;
     };
-    paths::search(system, 0, states, work, out);
-    true
-}
-
-// The same for what one state reaches: a state that it does not reach gets the number of the states, which is no state. The promise fixes that
-// number, since the array that is lent holds numbers of 16 bits, which leave no room for an `Option`.
-pub fn find_components_from(
-    states: usize,
-    letters: usize,
-    targets: &[u16],
-    from: usize,
-    work: &mut [u16],
-    out: &mut [u16],
-) -> bool
-    ensures { ComponentsReached states letters from targets.now work.old out.old out.new result }
-{
-    let Some(system) = searchable(states, letters, targets, work.len(), out.len()) else {
-        return false;
-    };
-    if states <= from {
-        return false;
-    }
-    out[..states].fill(states as u16);
-    paths::search(system, from, from + 1, work, out);
+    let (numbers, work) = work.split_at_mut(states);
+    walk::search(system, 0, states, numbers, work, out, &mut Names);
     true
 }
 

@@ -5,6 +5,7 @@ ghost use Rattle.components.specs.Views.{system_of};
 ghost use Rattle.components.specs.Reaches.{Untouched, ReachSays};
 ghost use Rattle.components.specs.Meeting.{QueuedIn, ReadSays};
 
+use crate::marked::Marked;
 use crate::system::System;
 
 // The states that are met, and how many: each state's place plus 1, and for each place the state, the place that it was met from and the letter.

@@ -1,7 +1,9 @@
-// A transition system in an array: the cell of state q and letter a is number q · m + a of m letters, and a target that is no state means that
-// there is no transition.
+// A transition system in an array, without marks: the cell of state q and letter a is number q · m + a of m letters, and a target that is no state
+// means that there is no transition.
 ghost use Rattle.std.specs.Prelude.{◌≡◌, ◌*◌, ◌<◌, ◌≤◌, length, is_some, IfSome};
 ghost use Rattle.components.specs.Places.{done_number};
+
+use crate::marked::Marked;
 
 // More than there are states or letters.
 pub(crate) const LIMIT: usize = 65535;
@@ -19,7 +21,7 @@ pub(crate) struct System<'a> {
 
 impl<'a> System<'a> {
     ghost use Rattle.components.specs.Calls.{cells_fit};
-    ghost use Rattle.components.specs.Views.{system_of, IsSystem};
+    ghost use Rattle.components.specs.Views.{IsSystem};
 
     // The system, if it fits.
     pub(crate) fn new(states: usize, letters: usize, targets: &'a [u16]) -> Option<System<'a>>
@@ -38,13 +40,28 @@ impl<'a> System<'a> {
             targets,
         })
     }
+}
 
-    // Where a letter leads from a state.
-    pub(crate) fn go(self, state: usize, letter: usize) -> usize
-        requires state_in { state < self.states }
-        requires letter_in { letter < self.letters }
-        ensures { result ≡ (system_of self.entry).go state letter }
-    {
+impl<'a> Marked for System<'a> {
+    ghost use Rattle.components.specs.Views.{system_of, no_marks};
+
+    ghost system = { system_of };
+
+    ghost marks = { no_marks };
+
+    fn states(self) -> usize {
+        self.states
+    }
+
+    fn letters(self) -> usize {
+        self.letters
+    }
+
+    fn go(self, state: usize, letter: usize) -> usize {
         usize::from(self.targets[state * self.letters + letter])
+    }
+
+    fn marks(self, _state: usize, _letter: usize) -> u8 {
+        0
     }
 }

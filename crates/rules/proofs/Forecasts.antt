@@ -1,5 +1,6 @@
 -- The forecast bounds the rows and the priorities, for any system, any keeper and any number of pairs and states.
---     sum_same, sum_zero, sum_add, sum_times, sum_grouped    sums over the numbers below a bound
+--     sum_same, sum_zero, sum_add, sum_times, sum_few        sums over the numbers below a bound
+--     sum_grouped                                            a sum, grouped by a number
 --     sum_within, sum_place                                  numbers in stretches of different lengths: below the whole, and in one stretch at one place only
 --     most_above, most_least, most_same                      the largest over the numbers below a bound
 --     Alike s f                                              claim: f is the same for a whole component
@@ -61,6 +62,10 @@ sum_times zero v b = omega arith
 sum_times (suc n) v b =
     rw (sum_times n v b, add-mul) (by (b n) (λ e. rw e (omega arith)) (λ e. rw e (omega arith)))
 
+pub sum_few : (n v : ℕ) (f : ℕ → ℕ) → ((i : ℕ) → i < n → f i ≤ v) → sum_below n f ≤ n * v
+sum_few zero v f h = omega arith
+sum_few (suc n) v f h = omega (arith, h n (omega arith), sum_few n v f (λ i l. h i (omega arith)))
+
 -- grouped by a number c i
 sum_grouped : (n m : ℕ) (c f : ℕ → ℕ)
     → sum_below n (λ i. when (ltb (c i) m) (f i)) ≡ sum_below m (λ r. sum_below n (λ i. when (eqb (c i) r) (f i)))
@@ -105,7 +110,7 @@ most_above zero i f l = absurd (omega arith)
 most_above (suc n) i f l =
     by (eqb i n) (λ e. rw (eqb-true i n e) (omega arith)) (λ e. omega (arith, most_above n i f (omega (arith, eqb-false i n e))))
 
-most_least : (n v : ℕ) (f : ℕ → ℕ) → ((i : ℕ) → i < n → f i ≤ v) → most_below n f ≤ v
+pub most_least : (n v : ℕ) (f : ℕ → ℕ) → ((i : ℕ) → i < n → f i ≤ v) → most_below n f ≤ v
 most_least zero v f h = omega arith
 most_least (suc n) v f h = omega (arith, h n (omega arith), most_least n v f (λ i l. h i (omega arith)))
 

@@ -9,9 +9,10 @@
 --                                                               of components alone
 --     inside_parts, inside_of_return                            what an inside transition is; one with a way back is inside
 --     Within, within_view, within_same                          a test that some inside transition of a component passes, the same for the whole component
+--     within_none                                               a test that no transition passes
 use mathlib.Core.Path.{◌≡◌, refl, sym}
 use mathlib.Core.Logic.{◌↔◌}
-use mathlib.Core.Bool.{Bool, true, ◌&&◌}
+use mathlib.Core.Bool.{Bool, true, false, ◌&&◌}
 use mathlib.Core.List.{List, [], ◌∷◌, ◌++◌}
 use Prim.Native.Nat.{ℕ, zero, suc, ◌≤◌, ◌<◌}
 use native.Mathlib.Nat.{not-suc-le-zero, le_antisymm}
@@ -20,7 +21,7 @@ use lib.Dec.{eqb, ltb}
 use borrow.Author.Tests.{eqb-true, eqb-false, eq-eqb, ltb-true, lt-ltb}
 use Rattle.rules.specs.Basics.{any_below}
 use Rattle.rules.specs.Systems.{System, linked, via, reaches, together, component_of, is_inside, some_within, Path, here, step, Leads}
-use Rattle.rules.proofs.Bools.{by, or_cases, or_left, or_right, and_both, and_parts, bool_ext}
+use Rattle.rules.proofs.Bools.{by, clash, or_cases, or_left, or_right, and_both, and_parts, bool_ext}
 use Rattle.rules.proofs.Sets.{below_find, below_intro, below_same, least_passes, least_least}
 
 -- Warshall's closure of any relation
@@ -202,3 +203,6 @@ module _ (s : System) where
           let m = (within_view b x).0 h in
           (within_view b y).1
           (record { state = m.state; letter = m.letter; is_state = m.is_state; is_letter = m.is_letter; near = together_trans y x m.state e m.near; inside = m.inside; passes = m.passes })
+
+  pub within_none : (b : ℕ → ℕ → Bool) (q : ℕ) → ((p a : ℕ) → b p a ≡ false) → some_within s b q ≡ false
+  within_none b q none = by (some_within s b q) (λ e. let m = (within_view b q).0 e in clash m.passes (none m.state m.letter)) (λ e. e)

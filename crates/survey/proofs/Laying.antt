@@ -23,12 +23,13 @@ use Rattle.rules.specs.Systems.{System, component_of, some_within, cell}
 use Rattle.rules.specs.Tables.{Table, table_of, system_of, target_of, prohibited_byte, required_byte, requires, counts}
 use Rattle.rules.proofs.Arrays.{get_d_any, cell_within}
 use Rattle.rules.proofs.Bits.{bit_over}
-use Rattle.rules.proofs.Bools.{by, clash}
-use Rattle.rules.proofs.Reach.{within_view}
+use Rattle.rules.proofs.Bools.{by}
+use Rattle.rules.proofs.Reach.{within_none}
 use Rattle.rules.proofs.Filling.{over_at}
 use Rattle.rules.proofs.Refusals.{TableFacts, table_facts}
 use Rattle.rules.proofs.Reaching.{SameGo, same_component, same_within}
-use Rattle.survey.specs.Layouts.{wide_target, target_entry, mask_entry, TargetsLaid, MarksLaid, target_cells, mark_cells, IsTable, counted_pairs, required_in, pair_bits, counted_in}
+use Rattle.components.specs.Visiting.{marks_within}
+use Rattle.survey.specs.Layouts.{wide_target, target_entry, mask_entry, TargetsLaid, MarksLaid, target_cells, mark_cells, IsTable, counted_pairs, required_in, counted_in}
 use Rattle.tables.specs.Parts.{WellFormed}
 use Rattle.survey.specs.Parts.{Listed}
 use Rattle.tables.proofs.Cells.{target_count, marks_small}
@@ -38,7 +39,7 @@ cut_bits : (b : ℕ → Bool) (k d : ℕ) → ((i : ℕ) → k ≤ i → b i ≡
 cut_bits b k zero none = let e : k + 0 ≡ k = omega arith in rw e
 cut_bits b k (suc d) none = let e : k + suc d ≡ suc (k + d) = omega arith in rw (e, none (k + d) (omega arith)) (omega (arith, cut_bits b k d none))
 
-pub same_bits : (b d : ℕ → Bool) (k : ℕ) → ((i : ℕ) → b i ≡ d i) → as_bits k b ≡ as_bits k d
+same_bits : (b d : ℕ → Bool) (k : ℕ) → ((i : ℕ) → b i ≡ d i) → as_bits k b ≡ as_bits k d
 same_bits b d zero same = refl
 same_bits b d (suc k) same = rw (same k, same_bits b d k same)
 
@@ -48,10 +49,6 @@ wide_list : (part xs : List ℕ) (k : ℕ) → part ≡ xs → length xs ≡ k
 wide_list part xs k e l =
     ap (λ (ys : List ℕ). tabulate (length ys) 0 (λ c. wide_target (get_or ys c 0))) e
     ∙ ap (λ (j : ℕ). tabulate j 0 (λ c. wide_target (get_or xs c 0))) l
-
--- where no transition passes a test, none within a component does
-within_none : (s : System) (b : ℕ → ℕ → Bool) (q : ℕ) → ((p a : ℕ) → b p a ≡ false) → some_within s b q ≡ false
-within_none s b q none = by (some_within s b q) (λ e. let r = (within_view s b q).0 e in clash r.passes (none r.state r.letter)) (λ e. e)
 
 module _ (bs : List ℕ) (formed : WellFormed bs) where
   abbrev t : Table
@@ -151,8 +148,9 @@ module _ (t : Table) (good : IsTable t) where
           within_none (system_of t) (λ p a. requires t p a (suc i)) q (λ p a. rw e (bit_over i (required_byte t p a) (lt_of_lt_of_le (small p a).1 (pow_mono {i = t.pairs} {j = i} h))))
 
       pub laid_counted : (q : ℕ) → q < t.states → counted_in t.states t.letters ts ms q ≡ counted_pairs t q
+      unfolding marks_within
       laid_counted q l =
-          let e : pair_bits ≡ t.pairs + (pair_bits - t.pairs) = omega (arith, good.few_pairs) in
-          same_bits _ (λ i. counts t q (suc i)) pair_bits (λ i. laid_counts i q l)
+          let e : 8 ≡ t.pairs + (8 - t.pairs) = omega (arith, good.few_pairs) in
+          same_bits _ (λ i. counts t q (suc i)) 8 (λ i. laid_counts i q l)
           ∙ ap (λ (k : ℕ). as_bits k (λ i. counts t q (suc i))) e
-          ∙ cut_bits (λ i. counts t q (suc i)) t.pairs (pair_bits - t.pairs) (λ i h. none_above i q h)
+          ∙ cut_bits (λ i. counts t q (suc i)) t.pairs (8 - t.pairs) (λ i h. none_above i q h)

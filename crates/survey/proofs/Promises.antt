@@ -6,35 +6,37 @@
 --     homes_found                        the homes in the targets that are laid out are the table's components
 --     front_few, front_at, front_is      the part of an array that a list is at the front of
 --     survey_room                        what holds where a survey fits
---     survey_unfit, survey_done          what a survey of all states, or of what one reaches, promises: it doesn't fit, or is done
-use mathlib.Core.Path.{◌≡◌, refl, sym, ap, ap₂, ◌∙◌}
-use mathlib.Core.Bool.{Bool, true, false, ◌&&◌, ◌||◌, and-true}
-use mathlib.Core.List.{List}
+--     survey_done                        what a survey promises, where it is done
+use mathlib.Core.Path.{◌≡◌, refl, sym, ap, ◌∙◌}
+use mathlib.Core.Bool.{Bool, true, false, ◌&&◌, ◌||◌}
+use mathlib.Core.List.{List, ◌++◌}
 use Prim.Native.Nat.{ℕ, zero, suc, ◌*◌, ◌<◌, ◌≤◌}
 use native.Mathlib.Omega.{arith}
 use lib.Dec.{eqb-suc-zero, leb, ltb}
-use lib.ListN.{length, get_or, take}
+use lib.ListN.{length, get_or, take, drop}
 use lib.Seq.{get_or-take, length-take-le}
-use borrow.Author.Tests.{lt-ltb, le-ltb, leb-true}
-use Rattle.std.specs.Prelude.{Option, Some, None}
+use borrow.Author.Tests.{lt-ltb, le-ltb, le-leb, leb-true}
+use Rattle.std.proofs.Common.{length-take}
 use Rattle.rules.specs.Basics.{tabulate}
 use Rattle.rules.specs.Judges.{parity_system}
 use Rattle.rules.specs.Limits.{max_states, max_letters}
 use Rattle.rules.specs.Refusals as Refusal
-use Rattle.rules.specs.Systems.{component_of, reaches}
+use Rattle.rules.specs.Systems.{component_of}
 use Rattle.rules.specs.Tables.{table_of, table_fault, system_of}
 use Rattle.rules.specs.Says.{over, components, ComponentsSay, ComponentsMean}
 use Rattle.rules.proofs.Arrays.{tabulate_same}
 use Rattle.rules.proofs.Bools.{and_parts}
-use Rattle.rules.proofs.Forecasts.{reached_alike}
+use Rattle.rules.proofs.Filling.{Filled, filled_over, over_front, over_rest, over_length}
 use Rattle.rules.proofs.Meanings.{components_mean}
 use Rattle.rules.proofs.Refusals.{table_facts}
 use Rattle.tables.specs.Parts.{WellFormed}
-use Rattle.survey.specs.Homes.{is_start, home_from, SurveysFrom}
-use Rattle.survey.specs.Layouts.{wide_target, target_cells, mark_cells, lay_fault, LaySays, survey_fits}
-use Rattle.survey.specs.Parts.{Listed, gathered_in}
+use Rattle.components.specs.Places.{done_number}
+use Rattle.components.specs.Calls.{components_fit, ComponentsFound}
+use Rattle.survey.specs.declared.cells.Counted.{Counted}
+use Rattle.survey.specs.Layouts.{wide_target, target_cells, mark_cells, lay_fault, LaySays, survey_fits, required_of, counted_in, SurveySays}
+use Rattle.survey.specs.Parts.{Listed, SurveyedIn}
 use Rattle.survey.proofs.Laying.{targets_written, targets_laid, is_table, laid_homes}
-use Rattle.survey.proofs.Surveying.{counted_at_homes}
+use Rattle.survey.proofs.Surveying.{AllTaken}
 
 pub components_refused : (bs o : List ℕ) (r : ℕ) → r ≡ table_fault bs → (r ≡ 0 → ⊥) → ComponentsSay bs o o r
 components_refused bs o zero e d = absurd (d refl)
@@ -76,14 +78,23 @@ module _ (bs : List ℕ) (formed : WellFormed bs) where
         record { refusal = rw (formed, e); state_count = refl; letter_count = refl; start_state = refl; target_array = et; mark_array = em }
 
 -- ---- components
+-- with room for them all are found
+components_written : {n m : ℕ} {ts work hs hs' : List ℕ} {r : Bool} → n ≤ max_states → m ≤ max_letters → n * m ≤ length ts → 5 * n ≤ length work → n ≤ length hs
+    → ComponentsFound n m ts work hs hs' r → hs' ≡ over (tabulate n 0 (component_of (parity_system n m ts))) hs
+components_written {n} {m} {ts} {work} {hs} few letters lt lw lh x =
+    let fits : components_fit n m (length ts) (length work) (length hs) ≡ true = rw (lt-ltb n done_number (omega arith), lt-ltb m done_number (omega arith), le-leb (n * m) (length ts) lt, le-leb (5 * n) (length work) lw, le-leb n (length hs) lh) in
+    rw (x.answer ∙ fits) at x.array
+
 module _ (bs : List ℕ) (formed : WellFormed bs) where
-  pub homes_found : {n m : ℕ} {part ts hs : List ℕ} (old zs : List ℕ) → n ≡ (table_of bs).states → m ≡ (table_of bs).letters → part ≡ (table_of bs).targets
-      → max_states * max_letters ≤ length ts → ts ≡ over (tabulate (length part) 0 (λ c. wide_target (get_or part c 0))) old → max_states ≤ length hs
-      → hs ≡ over (tabulate n 0 (component_of (parity_system n m ts))) zs → Listed (table_of bs).states (component_of (system_of (table_of bs))) hs
-  homes_found {n} {m} {part} {ts} {hs} old zs en em ep room written lh found =
+  pub homes_found : {n m : ℕ} {part ts work zs hs : List ℕ} {r : Bool} (old : List ℕ) → n ≡ (table_of bs).states → m ≡ (table_of bs).letters
+      → part ≡ (table_of bs).targets → max_states * max_letters ≤ length ts → ts ≡ over (tabulate (length part) 0 (λ c. wide_target (get_or part c 0))) old
+      → 5 * max_states ≤ length work → max_states ≤ length zs → length hs ≡ length zs → ComponentsFound n m ts work zs hs r
+      → Listed (table_of bs).states (component_of (system_of (table_of bs))) hs
+  homes_found {n} {m} {part} {ts} {work} {zs} {hs} old en em ep room written lw lz size found =
       let k = (table_facts bs formed).sizes in
       let laid = targets_laid bs formed old ts (omega (arith, k.most_cells)) (targets_written bs formed part old ts ep written) in
-      laid_homes (table_of bs) (is_table bs formed) ts laid zs hs (omega (arith, k.most_states)) (rw (en, em) at found)
+      let same = components_written (omega arith) (omega arith) (rw (en, em) (omega (arith, k.most_cells))) (omega (arith, k.most_states)) (omega (arith, k.most_states)) found in
+      laid_homes (table_of bs) (is_table bs formed) ts laid zs hs (omega (arith, k.most_states)) (rw (en, em) at same)
 
 module _ (n : ℕ) (f : ℕ → ℕ) (xs : List ℕ) (x : Listed n f xs) where
   pub front_few : length (take n xs) ≡ n
@@ -97,28 +108,6 @@ module _ (n : ℕ) (f : ℕ → ℕ) (xs : List ℕ) (x : Listed n f xs) where
       ap (λ (k : ℕ). tabulate k 0 (λ q. get_or (take n xs) q 0)) front_few ∙ tabulate_same _ f n 0 (λ q l u. front_at q (omega (arith, front_few)))
 
 -- ---- surveys
-module _ (n m : ℕ) (ts ms hs cs : List ℕ) {fits starts : Bool} (f : fits ≡ survey_fits n m (length ts) (length ms) (length hs) (length cs)) where
-  pub survey_unfit : (from : Option ℕ) → starts ≡ is_start from n → fits && starts ≡ false → SurveysFrom from n m ts ms hs hs cs cs false
-  survey_unfit (Some q) b h = record { answer = sym h ∙ ap₂ ◌&&◌ f b; home_array = refl; counted_array = refl }
-  survey_unfit None b h = record { answer = sym (rw (b, and-true) at h) ∙ f; home_array = refl; counted_array = refl }
-
-  pub survey_done : (from : Option ℕ) {hs' cs' : List ℕ} → starts ≡ is_start from n → fits && starts ≡ true
-      → hs' ≡ over (tabulate n 0 (home_from from (parity_system n m ts))) hs → cs' ≡ over (tabulate n 0 (gathered_in n m ts ms hs')) cs
-      → SurveysFrom from n m ts ms hs hs' cs cs' true
-  survey_done (Some q) {hs'} {cs'} b h eh ec =
-      let s = parity_system n m ts in
-      record {
-        answer = sym h ∙ ap₂ ◌&&◌ f b;
-        home_array = eh;
-        counted_array = counted_at_homes n m ts ms hs' hs (reaches s q) (reached_alike s q) eh cs cs' ec;
-      }
-  survey_done None {hs'} {cs'} b h eh ec =
-      record {
-        answer = sym (rw (b, and-true) at h) ∙ f;
-        home_array = eh;
-        counted_array = counted_at_homes n m ts ms hs' hs (λ q. true) (λ p q t. refl) eh cs cs' ec;
-      }
-
 -- a survey that fits has room
 pub survey_room : (n m a b c d : ℕ) → survey_fits n m a b c d ≡ true
     → (n ≤ max_states) × (m ≤ max_letters) × (n * m ≤ a) × (n * m ≤ b) × (n ≤ c) × (n ≤ d)
@@ -129,3 +118,33 @@ survey_room n m a b c d h =
     let s = and_parts (leb (n * m) b) (leb n c && leb n d) r.1 in
     let u = and_parts (leb n c) (leb n d) s.1 in
     (leb-true n max_states p.0, leb-true m max_letters q.0, leb-true (n * m) a r.0, leb-true (n * m) b s.0, leb-true n c u.0, leb-true n d u.1)
+
+-- all states are done, and the sets are copied
+module _ (n m : ℕ) (ts ms hs hs' cs front : List ℕ) (x : Counted) (fits : survey_fits n m (length ts) (length ms) (length hs) (length cs) ≡ true)
+    (size : length hs' ≡ length hs) (taken : AllTaken (parity_system n m ts) (required_of m ms) (λ (y : Counted). SurveyedIn y.sets) hs hs' x)
+    (part : length front ≡ n) (copied : front ≡ take n x.sets)
+  where
+    room : (n ≤ max_states) × (m ≤ max_letters) × (n * m ≤ length ts) × (n * m ≤ length ms) × (n ≤ length hs) × (n ≤ length cs)
+    room = survey_room n m (length ts) (length ms) (length hs) (length cs) fits
+
+    few : n ≤ length x.sets
+    few = omega (arith, part, ap length copied, length-take n x.sets)
+
+    homes : Filled (λ q v. v ≡ component_of (parity_system n m ts) q) hs hs' n
+    homes = record { size = size; done = λ q l. taken.held.0 q l (taken.all q l); rest = taken.rest }
+
+    counted : Filled (λ q v. v ≡ counted_in n m ts ms q) cs (over front cs) n
+    counted =
+        record {
+          size = over_length front cs (omega (arith, part, room));
+          done = λ q l. over_front front cs q (omega (arith, part)) ∙ rw copied (get_or-take n x.sets q 0 l) ∙ taken.held.1 q (omega (arith, few)) (taken.all q l);
+          rest = λ q l. over_rest front cs q (omega (arith, part));
+        }
+
+    pub survey_done : SurveySays n m ts ms hs hs' cs (front ++ drop n cs) true
+    survey_done =
+        record {
+          answer = sym fits;
+          home_array = filled_over (component_of (parity_system n m ts)) n hs hs' (omega (arith, room)) homes;
+          counted_array = ap (λ (k : ℕ). front ++ drop k cs) (sym part) ∙ filled_over (counted_in n m ts ms) n cs (over front cs) (omega (arith, room)) counted;
+        }

@@ -3,27 +3,22 @@
 --     LaidTable t n m start ts ms, laid_table    what is laid out of it: its sizes and its start, and its cells in the arrays
 --     laid_formed                                where something is laid out, the bytes are a well-formed table
 --     surveyed                                   what a survey of them leaves
---     surveyed_reached                           what a survey of those that the start reaches leaves
-use mathlib.Core.Path.{◌≡◌, refl, sym, ap₂, ◌∙◌}
+use mathlib.Core.Path.{◌≡◌, refl, sym, ◌∙◌}
 use mathlib.Core.Bool.{Bool, true}
 use mathlib.Core.List.{List}
 use Prim.Native.Nat.{ℕ, zero, suc, ◌*◌, ◌≤◌}
 use native.Mathlib.Omega.{arith}
 use lib.ListN.{length}
-use borrow.Author.Tests.{le-leb, lt-ltb, le-ltb}
-use Rattle.rules.specs.Basics.{pick, first_of}
+use borrow.Author.Tests.{le-leb, le-ltb}
+use Rattle.rules.specs.Basics.{first_of}
 use Rattle.rules.specs.Limits.{max_states, max_letters}
-use Rattle.rules.specs.Judges.{parity_system}
-use Rattle.rules.specs.Systems.{System, component_of, reaches}
+use Rattle.rules.specs.Systems.{component_of}
 use Rattle.rules.specs.Tables.{Table, table_of, table_fault, system_of}
-use Rattle.rules.proofs.Bools.{and_both}
-use Rattle.rules.proofs.Reaching.{same_reaches}
 use Rattle.rules.proofs.Refusals.{table_facts}
 use Rattle.tables.specs.Parts.{WellFormed}
-use Rattle.components.specs.Calls.{component_from}
-use Rattle.survey.specs.Layouts.{TargetsLaid, MarksLaid, IsTable, counted_pairs, counted_in, counted_from, HasCells, lay_fault, LaySays, survey_fits, SurveySays, ReachedSays}
+use Rattle.survey.specs.Layouts.{TargetsLaid, MarksLaid, IsTable, counted_pairs, counted_in, HasCells, lay_fault, LaySays, survey_fits, SurveySays}
 use Rattle.survey.specs.Parts.{Listed}
-use Rattle.survey.proofs.Laying.{targets_laid, marks_laid, laid_go, go_laid, laid_homes_at, laid_homes, laid_counted}
+use Rattle.survey.proofs.Laying.{targets_laid, marks_laid, laid_homes, laid_counted}
 use Rattle.survey.proofs.Surveying.{listed}
 
 -- ---- room for the cells
@@ -84,20 +79,3 @@ module _ {t : Table} {states letters start : ℕ} {ts ms : List ℕ} (good : IsT
       let e = s.answer ∙ fits (length hs) (length cs) lh lc in
       let sets = listed n (counted_in n m ts ms) cs cs' (omega arith) (rw e at s.counted_array) in
       (laid_homes t good ts x.targets hs hs' (omega arith) (rw e at s.home_array), record { enough = sets.enough; entry = λ q l. sets.entry q l ∙ laid_counted t good ts x.targets ms x.marks q l })
-
-  -- the same of what the start reaches
-  pub surveyed_reached : {hs hs' cs cs' : List ℕ} {r : Bool} → n ≤ length hs → n ≤ length cs → length hs' ≡ length hs → length cs' ≡ length cs
-      → ReachedSays states letters start ts ms hs hs' cs cs' r
-      → Listed n (component_from (system_of t) t.start) hs' × Listed n (λ q. pick (reaches (system_of t) t.start q) (counted_pairs t q) 0) cs'
-  surveyed_reached {hs} {hs'} {cs} {cs'} lh lc kh kc says =
-      let s = rw (x.states, x.letters, x.start_state) at says in
-      let e = s.answer ∙ and_both _ _ (fits (length hs) (length cs) lh lc) (lt-ltb t.start n good.start_state) in
-      let homes = listed n (component_from sys t.start) hs hs' (omega arith) (rw e at s.home_array) in
-      let sets = listed n (counted_from n m t.start ts ms) cs cs' (omega arith) (rw e at s.counted_array) in
-      (record { enough = homes.enough; entry = λ q l. homes.entry q l ∙ ap₂ (λ (b : Bool) (c : ℕ). pick b c n) (reached_same q) (laid_homes_at t good ts x.targets q l) }, record { enough = sets.enough; entry = λ q l. sets.entry q l ∙ ap₂ (λ (b : Bool) (c : ℕ). pick b c 0) (reached_same q) (laid_counted t good ts x.targets ms x.marks q l) })
-    where
-      sys : System
-      sys = parity_system n m ts
-
-      reached_same : (q : ℕ) → reaches sys t.start q ≡ reaches (system_of t) t.start q
-      reached_same q = same_reaches sys (system_of t) (go_laid t good ts x.targets) (laid_go t good ts x.targets) t.start q good.start_state

@@ -12,22 +12,20 @@
 --     LaySays bs ..                    claim: laying out: both arrays, entries past the cells untouched, and the sizes; on a refusal nothing is
 --                                      written and all sizes are 0
 --     survey_fits n m ..               test: the sizes are in range, and the arrays have room for the cells and the states
+--     required_of m ms p a             number: the pairs that the transition of p by a requires, as bits
 --     required_in m ms i p a           test, the one that bit i stands for: the transition of p by a, if it is inside, makes pair i + 1 count
---     pair_bits                        number: how many bits a set of pairs has
 --     counted_in n m ts ms q           number: the pairs that count in q's component, as bits, by the laid-out cells
---     counted_from n m from ts ms q    number: the pairs that count in q's component where `from` reaches q, else none
---     ReachedSays n m from ..          claim: surveying what one state reaches
 --     SurveySays n m ..                claim: surveying: both arrays, entries past the states untouched; nothing is written where it does not fit
 use Rattle.std.specs.Prelude.{◌≡◌, Bool, ◌&&◌, ◌||◌, List, ℕ, suc, ◌+◌, ◌*◌, ◌/◌, ◌^◌, ◌<◌, ◌≤◌, eqb, leb, ltb, length, get_or}
 use Rattle.rules.specs.Basics.{pick, first_of, when, tabulate, bit, as_bits}
 use Rattle.rules.specs.Judges.{parity_system}
 use Rattle.rules.specs.Limits.{max_states, max_letters, max_pairs, no_state, no_row}
 use Rattle.rules.specs.Refusals as Refusal
-use Rattle.rules.specs.Systems.{component_of, reaches, some_within, cell}
+use Rattle.rules.specs.Systems.{component_of, cell}
 use Rattle.rules.specs.Tables.{Table, table_of, table_fault, target_of, prohibited_byte, required_byte, counts}
 use Rattle.rules.specs.Says.{over}
+use Rattle.components.specs.Visiting.{marks_within}
 use Rattle.tables.specs.Parts.{WellFormed}
-use Rattle.components.specs.Calls.{component_from}
 
 abbrev pub wide_target : ℕ → ℕ
 wide_target x = pick (eqb x no_state) no_row x
@@ -83,25 +81,16 @@ pub record LaySays (bs ts ts' ms ms' : List ℕ) (number states letters start : 
 abbrev pub survey_fits : ℕ → ℕ → ℕ → ℕ → ℕ → ℕ → Bool
 survey_fits n m a b c d = leb n max_states && (leb m max_letters && (leb (n * m) a && (leb (n * m) b && (leb n c && leb n d))))
 
-abbrev pub required_in : ℕ → List ℕ → ℕ → ℕ → ℕ → Bool
-required_in m ms i p a = bit i (get_or ms (cell m p a) 0 / 256)
+abbrev pub required_of : ℕ → List ℕ → ℕ → ℕ → ℕ
+required_of m ms p a = get_or ms (cell m p a) 0 / 256
 
-abbrev pub pair_bits : ℕ
-pair_bits = 8
+abbrev pub required_in : ℕ → List ℕ → ℕ → ℕ → ℕ → Bool
+required_in m ms i p a = bit i (required_of m ms p a)
 
 abbrev pub counted_in : ℕ → ℕ → List ℕ → List ℕ → ℕ → ℕ
-counted_in n m ts ms q = as_bits pair_bits (λ i. some_within (parity_system n m ts) (required_in m ms i) q)
+counted_in n m ts ms = marks_within (parity_system n m ts) (required_of m ms)
 
 pub record SurveySays (n m : ℕ) (ts ms hs hs' cs cs' : List ℕ) (r : Bool) : Type 0 where
   pub answer : r ≡ survey_fits n m (length ts) (length ms) (length hs) (length cs)
   pub home_array : hs' ≡ pick r (over (tabulate n 0 (component_of (parity_system n m ts))) hs) hs
   pub counted_array : cs' ≡ pick r (over (tabulate n 0 (counted_in n m ts ms)) cs) cs
-
--- surveying what one state reaches
-abbrev pub counted_from : ℕ → ℕ → ℕ → List ℕ → List ℕ → ℕ → ℕ
-counted_from n m from ts ms q = pick (reaches (parity_system n m ts) from q) (counted_in n m ts ms q) 0
-
-pub record ReachedSays (n m from : ℕ) (ts ms hs hs' cs cs' : List ℕ) (r : Bool) : Type 0 where
-  pub answer : r ≡ survey_fits n m (length ts) (length ms) (length hs) (length cs) && ltb from n
-  pub home_array : hs' ≡ pick r (over (tabulate n 0 (component_from (parity_system n m ts) from)) hs) hs
-  pub counted_array : cs' ≡ pick r (over (tabulate n 0 (counted_from n m from ts ms)) cs) cs

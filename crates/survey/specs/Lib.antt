@@ -1,6 +1,4 @@
 -- What the crate's contracts cite beyond the rules.
-pub mod Cells
-pub mod Homes
 pub mod Laid
 pub mod Layouts
 pub mod Parts

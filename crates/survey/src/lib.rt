@@ -1,15 +1,16 @@
 // Lays a Rabin table out in arrays, and says of each state its component and the pairs that count there: a translation looks at no bytes after that.
 // It rests on `tables`, which checks the bytes, and on `components`. `find_components` keeps the promises `ComponentsSay` and `ComponentsMean` of the
-// rules, `lay_table`, `survey_cells` and `survey_reached` keep `LaySays`, `SurveySays` and `ReachedSays` of this crate, for all bytes, sizes and arrays.
+// rules, `lay_table` and `survey_cells` keep `LaySays` and `SurveySays` of this crate, for all bytes, sizes and arrays.
 #![tactic(auto)]
 
-use counted::Cells;
+use cells::{Cells, Counted};
+use components::search;
 pub use layout::Laid;
 use rules::limit::{MAX_LETTERS, MAX_STATES};
 use rules::refusal::Refusal;
 use tables::check_table;
 
-mod counted;
+mod cells;
 mod homes;
 mod layout;
 
@@ -17,8 +18,7 @@ ghost use Rattle.std.specs.Prelude.{◌≡◌};
 ghost use Rattle.rules.specs.Numbered.{number_in};
 ghost use Rattle.rules.specs.Says.{ComponentsSay, ComponentsMean};
 ghost use Rattle.survey.specs.Laid.{states_in, letters_in, start_in};
-ghost use Rattle.survey.specs.Layouts.{LaySays, survey_fits, SurveySays, ReachedSays};
-ghost use Rattle.survey.specs.Homes.{SurveysFrom};
+ghost use Rattle.survey.specs.Layouts.{LaySays, survey_fits, SurveySays};
 
 // The smallest state of each state's component, in the first n entries of `out`.
 pub fn find_components(table: &[u8], out: &mut [u8]) -> Result<(), Refusal>
@@ -33,7 +33,8 @@ pub fn find_components(table: &[u8], out: &mut [u8]) -> Result<(), Refusal>
     let mut targets = [0; MAX_STATES as usize * MAX_LETTERS as usize];
     let mut homes = [0; MAX_STATES as usize];
     layout::lay_targets(table.targets(), &mut targets);
-    homes::find_homes(n, table.letters(), &targets, None, &mut homes);
+    let mut work = [0; 5 * MAX_STATES as usize];
+    components::find_components(n, table.letters(), &targets, &mut work, &mut homes);
     homes::narrow(&homes[..n], out);
     Ok(())
 }
@@ -76,41 +77,6 @@ fn survey_fits(
     (cells <= targets) & ((cells <= marks) & ((states <= homes) & (states <= counted)))
 }
 
-// Surveys laid-out cells: all of them, or those of the states that one state reaches.
-fn survey(
-    states: usize,
-    letters: usize,
-    from: Option<usize>,
-    targets: &[u16],
-    marks: &[u16],
-    homes: &mut [u16],
-    counted: &mut [u8],
-) -> bool
-    ensures { SurveysFrom from states letters targets.now marks.now homes.old homes.new counted.old counted.new result }
-{
-    let fits = survey_fits(
-        states,
-        letters,
-        targets.len(),
-        marks.len(),
-        homes.len(),
-        counted.len(),
-    );
-    if !(fits & homes::is_start(from, states)) {
-        return false;
-    }
-    homes::find_homes(states, letters, targets, from, homes);
-    let cells = Cells {
-        states,
-        letters,
-        targets,
-        marks,
-        homes,
-    };
-    cells.write_counted(counted);
-    true
-}
-
 // Surveys laid-out cells: for each state the number of its component and the pairs that count there, at the front of both arrays; false
 // where the sizes or an array do not fit. The answer is a `bool`: there is nothing beside it, as what is found lies in the arrays that are lent.
 pub fn survey_cells(
@@ -123,21 +89,29 @@ pub fn survey_cells(
 ) -> bool
     ensures { SurveySays states letters targets.now marks.now homes.old homes.new counted.old counted.new result }
 {
-    survey(states, letters, None, targets, marks, homes, counted)
-}
-
-// The same for what one state reaches. A state that it does not reach gets the number of the states as its component, and no pairs: so the promise
-// says of the lent arrays. False also where the state to start from is none.
-pub fn survey_reached(
-    states: usize,
-    letters: usize,
-    from: usize,
-    targets: &[u16],
-    marks: &[u16],
-    homes: &mut [u16],
-    counted: &mut [u8],
-) -> bool
-    ensures { ReachedSays states letters from targets.now marks.now homes.old homes.new counted.old counted.new result }
-{
-    survey(states, letters, Some(from), targets, marks, homes, counted)
+    let fits = survey_fits(
+        states,
+        letters,
+        targets.len(),
+        marks.len(),
+        homes.len(),
+        counted.len(),
+    );
+    if !fits {
+        return false;
+    }
+    let cells = Cells {
+        states,
+        letters,
+        targets,
+        marks,
+    };
+    let mut numbers = [0; MAX_STATES as usize];
+    let mut work = [0; 4 * MAX_STATES as usize];
+    let mut taker = Counted {
+        sets: [0; MAX_STATES as usize],
+    };
+    search(cells, 0, states, &mut numbers, &mut work, homes, &mut taker);
+    counted[..states].copy_from_slice(&taker.sets[..states]);
+    true
 }

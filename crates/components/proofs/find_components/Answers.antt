@@ -7,4 +7,4 @@ pub returns : goal.returns
 returns c =
     let a = c.args in
     let i = c.in-Some.ensures in
-    found_all a.states a.letters a.targets.now a.work.now a.out.now a.out.now _ (sym i.fits) (rw (is_system c.in-Some.system a.states a.letters a.targets.now i.same) at c.search.ensures)
+    found_all a.states a.letters a.targets.now a.work.now a.out.now _ _ _ _ (sym i.fits) (rw (is_system c.in-Some.system a.states a.letters a.targets.now i.same) at c.search.ensures)

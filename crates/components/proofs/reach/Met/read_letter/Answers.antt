@@ -4,7 +4,7 @@ use lib.Seq.{get_or-set_other}
 use Rattle.rules.proofs.Filling.{beyond_set}
 use Rattle.components.specs.Places.{at}
 use Rattle.components.proofs.Stores.{put_set, put_as}
-use Rattle.components.proofs.Searches.{room}
+use Rattle.components.proofs.Placed.{room}
 use Rattle.components.proofs.Reaches.{reached_new, read_old}
 use Rattle.components.proofs.reach.Met.read_letter.Goals as goal
 use Rattle.components.proofs.reach.Met.read_letter.Goals.{Else-self-target-ne0}
