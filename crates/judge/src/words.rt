@@ -1,5 +1,6 @@
 // The refusals of a looped word, which come after the table's.
 ghost use Rattle.std.specs.Prelude.{◌≡◌};
+ghost use Rattle.rules.specs.Basics.{first_of};
 ghost use Rattle.rules.specs.Judges.{word_fault};
 ghost use Rattle.rules.specs.Numbered.{number_in};
 ghost use Rattle.rules.specs.Runs.{stray_letter};
@@ -32,4 +33,12 @@ pub fn word_fault(m: u8, lead: &[u8], looped: &[u8]) -> Result<(), Refusal>
         return Err(Refusal::Letter);
     }
     Ok(())
+}
+
+// A table's refusal comes before the word's: both are numbers, 0 for none, for a caller who has them as they go out to C. The judges here leave at the
+// first refusal instead.
+pub fn first_fault(table: u8, word: u8) -> u8
+    ensures { result ≡ first_of table word }
+{
+    if table != 0 { table } else { word }
 }
