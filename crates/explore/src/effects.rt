@@ -15,6 +15,7 @@ pub trait Rule {
 }
 
 // Index appearance records: the prohibited pairs move to the front. They are in the lower byte of the marks, the required ones in the upper.
+#[derive(Clone, Copy)]
 pub struct Pairs;
 
 impl Rule for Pairs {
