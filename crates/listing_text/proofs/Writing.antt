@@ -2,8 +2,9 @@
 --     wrote_none                          nothing
 --     wrote_both                          two texts, one after the other
 --     reach_first, reach_then             where the whole is in reach, so is its first part, and from its end on the second
+--     wrote_byte                          a byte that is set, and the next place
+--     wrote_both_in                       two texts, one after the other, where the whole is in reach
 --     wrote_next                          of texts that are written one by one, the next one
---     writes_byte                         a writer that sets a byte and goes one place on
 --     writes_none, writes_both            a writer that writes nothing; one text, then another
 --     writes_next, writes_next_byte       of texts that a writer writes one by one, the next one; of bytes likewise
 --     writer_done                         the whole text of a writer that began at the first place
@@ -40,15 +41,18 @@ reach_first s t h = record { ends = omega (arith, h.ends, length-append s t) }
 reach_then : {at r : ℕ} {s o o' : List ℕ} (t : List ℕ) → InReach at (s ++ t) → Wrote at s o o' r → InReach r t
 reach_then {at} {r} {s} t h w = record { ends = omega (arith, h.ends, length-append s t, w.next) }
 
+pub wrote_byte : {at b r : ℕ} {o o' : List ℕ} → o' ≡ set o at b → r ≡ min (at + 1) 18446744073709551615 → InReach at (b ∷ []) → Wrote at (b ∷ []) o o' r
+wrote_byte is next h = record { contents = is; next = omega (arith, h.ends) }
+
+pub wrote_both_in : {at r r' : ℕ} {s t o o' o'' : List ℕ} → (InReach at s → Wrote at s o o' r) → (InReach r t → Wrote r t o' o'' r') → InReach at (s ++ t)
+    → Wrote at (s ++ t) o o'' r'
+wrote_both_in {s = s} {t = t} v u h = let first = v (reach_first s t h) in wrote_both first (u (reach_then t h first))
+
 -- ---- texts one by one
 pub wrote_next : (g : ℕ → List ℕ) {at r r' i : ℕ} {o o' o'' : List ℕ} → Wrote at (each i 0 g) o o' r → Wrote r (g i) o' o'' r' → Wrote at (each (i + 1) 0 g) o o'' r'
 wrote_next g {at} {r} {r'} {i} v w = rw (each_more g i) (wrote_both v w)
 
 -- ---- writers
-pub writes_byte : {w : Writer} {b r : ℕ} (v : Writer) → v.out.ghost_name ≡ w.out.ghost_name → v.out.now ≡ set w.out.now w.at b → r ≡ min (w.at + 1) 18446744073709551615
-    → Writes w (b ∷ []) (record v { at = r })
-writes_byte v same is next = record { array = same; written = λ h. record { contents = is; next = omega (arith, h.ends) } }
-
 pub writes_none : (w : Writer) → Writes w [] w
 writes_none w = record { array = refl; written = λ _. wrote_none w.at w.out.now }
 
@@ -56,7 +60,7 @@ pub writes_both : {w w' w'' : Writer} {s t : List ℕ} → Writes w s w' → Wri
 writes_both {s = s} {t = t} v u =
     record {
       array = u.array ∙ v.array;
-      written = λ h. let first = v.written (reach_first s t h) in wrote_both first (u.written (reach_then t h first));
+      written = wrote_both_in v.written u.written;
     }
 
 pub writes_next : {w w' w'' : Writer} {i : ℕ} (g : ℕ → List ℕ) → Writes w (each i 0 g) w' → Writes w' (g i) w'' → Writes w (each (i + 1) 0 g) w''

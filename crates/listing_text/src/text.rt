@@ -2,13 +2,36 @@
 ghost use Rattle.std.specs.Prelude.{◌≡◌, [], ◌∷◌};
 ghost use Rattle.rules.specs.Listings.{field};
 ghost use Rattle.rules.specs.Texts.{numeral};
-ghost use Rattle.listing_text.specs.Writing.{optional_field, Writes};
+ghost use Rattle.listing_text.specs.Writing.{InReach, optional_field, Writes, Wrote};
 
 pub(crate) const BLANK: u8 = b' ';
 
 pub(crate) const LINE_FEED: u8 = b'\n';
 
 const DASH: u8 = b'-';
+
+// Writes one byte, and gives the place after it.
+fn put_byte(out: &mut [u8], at: usize, byte: u8) -> usize
+    ensures { InReach at (byte ∷ []) → Wrote at (byte ∷ []) out.old out.new result }
+{
+    if at < out.len() {
+        out[at] = byte;
+    }
+    at.saturating_add(1)
+}
+
+// Writes a number in decimal: the digits before the last, then the last. The place is a value that is handed on, so that it stays in a register from digit
+// to digit: a writer that the recursion borrows would lie in memory.
+// By hand: `write!` promises what it wrote only where it answers `Ok`, and it does not promise that answer.
+fn put_numeral(out: &mut [u8], at: usize, n: u32) -> usize
+    ensures { InReach at (numeral n) → Wrote at (numeral n) out.old out.new result }
+{
+    if n < 10 {
+        return put_byte(out, at, b'0' + n as u8);
+    }
+    let last = put_numeral(out, at, n / 10);
+    put_byte(out, last, b'0' + (n % 10) as u8)
+}
 
 // Each call goes on where the last one ended. What falls past the end of the array is dropped, but counted; so a writer over an empty
 // array only counts.
@@ -39,11 +62,7 @@ impl<'a> Writer<'a> {
     fn byte(&mut self, byte: u8)
         ensures { Writes self.old (byte ∷ []) self.new }
     {
-        let at = self.at;
-        if at < self.out.len() {
-            self.out[at] = byte;
-        }
-        self.at = at.saturating_add(1);
+        self.at = put_byte(self.out, self.at, byte);
     }
 
     // Writes some bytes.
@@ -56,16 +75,11 @@ impl<'a> Writer<'a> {
         }
     }
 
-    // Writes a number in decimal: the digits before the last, then the last.
-    // By hand: `write!` promises what it wrote only where it answers `Ok`, and it does not promise that answer.
+    // Writes a number in decimal.
     fn numeral(&mut self, n: u32)
         ensures { Writes self.old (numeral n) self.new }
     {
-        if n < 10 {
-            return self.byte(b'0' + n as u8);
-        }
-        self.numeral(n / 10);
-        self.byte(b'0' + (n % 10) as u8);
+        self.at = put_numeral(self.out, self.at, n);
     }
 
     // Writes a number and the byte that ends its field.
