@@ -39,7 +39,7 @@ cut_bits : (b : ℕ → Bool) (k d : ℕ) → ((i : ℕ) → k ≤ i → b i ≡
 cut_bits b k zero none = let e : k + 0 ≡ k = omega arith in rw e
 cut_bits b k (suc d) none = let e : k + suc d ≡ suc (k + d) = omega arith in rw (e, none (k + d) (omega arith)) (omega (arith, cut_bits b k d none))
 
-same_bits : (b d : ℕ → Bool) (k : ℕ) → ((i : ℕ) → b i ≡ d i) → as_bits k b ≡ as_bits k d
+pub same_bits : (b d : ℕ → Bool) (k : ℕ) → ((i : ℕ) → b i ≡ d i) → as_bits k b ≡ as_bits k d
 same_bits b d zero same = refl
 same_bits b d (suc k) same = rw (same k, same_bits b d k same)
 

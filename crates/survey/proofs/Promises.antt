@@ -9,14 +9,13 @@
 --     survey_done                        what a survey promises, where it is done
 use mathlib.Core.Path.{◌≡◌, refl, sym, ap, ◌∙◌}
 use mathlib.Core.Bool.{Bool, true, false, ◌&&◌, ◌||◌}
-use mathlib.Core.List.{List, ◌++◌}
+use mathlib.Core.List.{List}
 use Prim.Native.Nat.{ℕ, zero, suc, ◌*◌, ◌<◌, ◌≤◌}
 use native.Mathlib.Omega.{arith}
 use lib.Dec.{eqb-suc-zero, leb, ltb}
-use lib.ListN.{length, get_or, take, drop}
+use lib.ListN.{length, get_or, take}
 use lib.Seq.{get_or-take, length-take-le}
 use borrow.Author.Tests.{lt-ltb, le-ltb, le-leb, leb-true}
-use Rattle.std.proofs.Common.{length-take}
 use Rattle.rules.specs.Basics.{tabulate}
 use Rattle.rules.specs.Judges.{parity_system}
 use Rattle.rules.specs.Limits.{max_states, max_letters}
@@ -26,8 +25,9 @@ use Rattle.rules.specs.Tables.{table_of, table_fault, system_of}
 use Rattle.rules.specs.Says.{over, components, ComponentsSay, ComponentsMean}
 use Rattle.rules.proofs.Arrays.{tabulate_same}
 use Rattle.rules.proofs.Bools.{and_parts}
-use Rattle.rules.proofs.Filling.{Filled, filled_over, over_front, over_rest, over_length}
+use Rattle.rules.proofs.Filling.{Filled, filled_over}
 use Rattle.rules.proofs.Meanings.{components_mean}
+use Rattle.rules.proofs.Reaching.{component_below}
 use Rattle.rules.proofs.Refusals.{table_facts}
 use Rattle.tables.specs.Parts.{WellFormed}
 use Rattle.components.specs.Places.{done_number}
@@ -36,7 +36,7 @@ use Rattle.survey.specs.declared.cells.Counted.{Counted}
 use Rattle.survey.specs.Layouts.{wide_target, target_cells, mark_cells, lay_fault, LaySays, survey_fits, required_of, counted_in, SurveySays}
 use Rattle.survey.specs.Parts.{Listed, SurveyedIn}
 use Rattle.survey.proofs.Laying.{targets_written, targets_laid, is_table, laid_homes}
-use Rattle.survey.proofs.Surveying.{AllTaken}
+use Rattle.survey.proofs.Surveying.{AllTaken, marks_at_home}
 
 pub components_refused : (bs o : List ℕ) (r : ℕ) → r ≡ table_fault bs → (r ≡ 0 → ⊥) → ComponentsSay bs o o r
 components_refused bs o zero e d = absurd (d refl)
@@ -119,32 +119,38 @@ survey_room n m a b c d h =
     let u = and_parts (leb n c) (leb n d) s.1 in
     (leb-true n max_states p.0, leb-true m max_letters q.0, leb-true (n * m) a r.0, leb-true (n * m) b s.0, leb-true n c u.0, leb-true n d u.1)
 
--- all states are done, and the sets are copied
-module _ (n m : ℕ) (ts ms hs hs' cs front : List ℕ) (x : Counted) (fits : survey_fits n m (length ts) (length ms) (length hs) (length cs) ≡ true)
+-- all states are done, and each has the set of its component's smallest state
+module _ (n m : ℕ) (ts ms hs hs' cs cs' : List ℕ) (x : Counted) (fits : survey_fits n m (length ts) (length ms) (length hs) (length cs) ≡ true)
     (size : length hs' ≡ length hs) (taken : AllTaken (parity_system n m ts) (required_of m ms) (λ (y : Counted). SurveyedIn y.sets) hs hs' x)
-    (part : length front ≡ n) (copied : front ≡ take n x.sets)
+    (few : n ≤ length x.sets)
   where
     room : (n ≤ max_states) × (m ≤ max_letters) × (n * m ≤ length ts) × (n * m ≤ length ms) × (n ≤ length hs) × (n ≤ length cs)
     room = survey_room n m (length ts) (length ms) (length hs) (length cs) fits
 
-    few : n ≤ length x.sets
-    few = omega (arith, part, ap length copied, length-take n x.sets)
-
     homes : Filled (λ q v. v ≡ component_of (parity_system n m ts) q) hs hs' n
     homes = record { size = size; done = λ q l. taken.held.0 q l (taken.all q l); rest = taken.rest }
 
-    counted : Filled (λ q v. v ≡ counted_in n m ts ms q) cs (over front cs) n
-    counted =
-        record {
-          size = over_length front cs (omega (arith, part, room));
-          done = λ q l. over_front front cs q (omega (arith, part)) ∙ rw copied (get_or-take n x.sets q 0 l) ∙ taken.held.1 q (omega (arith, few)) (taken.all q l);
-          rest = λ q l. over_rest front cs q (omega (arith, part));
-        }
+    named : (q : ℕ) → q < n → get_or (take n hs') q 0 ≡ component_of (parity_system n m ts) q
+    named q l = get_or-take n hs' q 0 l ∙ homes.done q l
 
-    pub survey_done : SurveySays n m ts ms hs hs' cs (front ++ drop n cs) true
-    survey_done =
-        record {
-          answer = sym fits;
-          home_array = filled_over (component_of (parity_system n m ts)) n hs hs' (omega (arith, room)) homes;
-          counted_array = ap (λ (k : ℕ). front ++ drop k cs) (sym part) ∙ filled_over (counted_in n m ts ms) n cs (over front cs) (omega (arith, room)) counted;
-        }
+    pub home_few : (q : ℕ) → q < n → get_or (take n hs') q 0 < length x.sets
+    home_few q l = rw (named q l) (omega (arith, component_below (parity_system n m ts) q l, few))
+
+    module _ (spread : Filled (λ q v. v ≡ get_or x.sets (get_or (take n hs') q 0) 0) cs cs' n) where
+      counted : Filled (λ q v. v ≡ counted_in n m ts ms q) cs cs' n
+      counted = record { size = spread.size; done = each; rest = spread.rest }
+        where
+          each : (q : ℕ) → q < n → get_or cs' q 0 ≡ counted_in n m ts ms q
+          each q l =
+              let s = parity_system n m ts in
+              let below = component_below s q l in
+              spread.done q l ∙ rw (named q l) (taken.held.1 (component_of s q) (omega (arith, below, few)) (taken.all (component_of s q) below))
+              ∙ marks_at_home s (required_of m ms) q l
+
+      pub survey_done : SurveySays n m ts ms hs hs' cs cs' true
+      survey_done =
+          record {
+            answer = sym fits;
+            home_array = filled_over (component_of (parity_system n m ts)) n hs hs' (omega (arith, room)) homes;
+            counted_array = filled_over (counted_in n m ts ms) n cs cs' (omega (arith, room)) counted;
+          }

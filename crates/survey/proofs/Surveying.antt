@@ -1,6 +1,7 @@
 -- What a survey knows of the states that are done, and the arrays that it leaves.
 --     CountedUpTo               the first of some states have a set in their entry, as far as there are entries, the others are as they were
 --     counted_more              with one component more, what is done has its set
+--     marks_at_home             a component's smallest state has the marks of each of its states
 --     AllTaken, all_taken       all states are done: so it is after a search from all of them
 --     listed                    an array with a list at its front
 --     home_inside               which transitions are inside, by the numbers of components
@@ -12,19 +13,20 @@ use native.Mathlib.Omega.{arith}
 use lib.Dec.{eqb, ltb}
 use lib.ListN.{length, get_or}
 use borrow.Author.Tests.{eqb-true, eq-eqb, ltb-true, lt-ltb, le-leb}
-use Rattle.rules.specs.Basics.{any_below, tabulate}
+use Rattle.rules.specs.Basics.{any_below, bit, tabulate}
 use Rattle.rules.specs.Says.{over}
-use Rattle.rules.specs.Systems.{System, is_inside, component_of}
+use Rattle.rules.specs.Systems.{System, is_inside, component_of, some_within}
 use Rattle.rules.proofs.Bools.{by, clash}
 use Rattle.rules.proofs.Filling.{over_at}
-use Rattle.rules.proofs.Reach.{inside_component}
-use Rattle.rules.proofs.Reaching.{reaches_refl}
+use Rattle.rules.proofs.Reach.{inside_component, within_component, component_same, component_together}
+use Rattle.rules.proofs.Reaching.{reaches_refl, component_below}
 use Rattle.rules.proofs.Sets.{below_find, below_intro}
 use Rattle.components.specs.Places.{done_number, at}
 use Rattle.components.specs.Visiting.{marks_within, IsComponent}
 use Rattle.components.specs.Handing.{Holds, HandedOver, search_fits, ComponentsTaken}
 use Rattle.components.proofs.Marks.{set_is}
 use Rattle.survey.specs.Parts.{Listed, CountedIn}
+use Rattle.survey.proofs.Laying.{same_bits}
 
 pub record CountedUpTo (members : List ℕ) (k set : ℕ) (xs xs' : List ℕ) : Type 0 where
   pub size : length xs' ≡ length xs
@@ -49,6 +51,15 @@ counted_more s marks members set xs xs' done done' part small y h before q l d =
     other e =
         let no : (i : ℕ) → i < length members → at members i ≡ q → ⊥ = λ i b z. clash (below_intro (length members) is i b (eq-eqb (at members i) q z)) e in
         y.others q no ∙ before q (rw (← y.size) l) (sym (h.others q no) ∙ d)
+
+pub marks_at_home : (s : System) (marks : ℕ → ℕ → ℕ) (q : ℕ) → q < s.states → marks_within s marks (component_of s q) ≡ marks_within s marks q
+unfolding marks_within
+marks_at_home s marks q l =
+    let below = component_below s q l in
+    let home : component_of s (component_of s q) ≡ component_of s q = sym ((component_same s q (component_of s q) l below).0 (component_together s q l)) in
+    let has : ℕ → ℕ → ℕ → Bool = λ b p a. bit b (marks p a) in
+    same_bits (λ b. some_within s (has b) (component_of s q)) (λ b. some_within s (has b) q) 8
+    (λ b. within_component s (has b) (component_of s q) below ∙ rw home (sym (within_component s (has b) q l)))
 
 -- ---- a search from all states
 pub record AllTaken {T : Type 0} (s : System) (marks : ℕ → ℕ → ℕ) (holds : Holds T) (es es' : List ℕ) (x' : T) : Type 0 where

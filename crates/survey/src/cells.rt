@@ -1,7 +1,8 @@
 // Laid-out cells as a system whose transitions are marked with the pairs that they require, and who takes its components.
-ghost use Rattle.std.specs.Prelude.{◌*◌, ◌≤◌, length};
+ghost use Rattle.std.specs.Prelude.{◌≡◌, ◌*◌, ◌≤◌, length};
 ghost use Rattle.std.proofs.Common.{sym, ◌∙◌};
 ghost use Rattle.rules.specs.Judges.{parity_system};
+ghost use Rattle.rules.specs.Limits.{max_states};
 ghost use Rattle.survey.specs.Layouts.{required_of};
 ghost use Rattle.survey.specs.Parts.{SurveyedIn};
 
@@ -48,6 +49,7 @@ impl<'a> Marked for Cells<'a> {
 #[derive(Drop)]
 pub(crate) struct Counted {
     pub(crate) sets: [u8; MAX_STATES as usize],
+    ghost room: { length sets ≡ max_states },
 }
 
 impl Taker for Counted {

@@ -112,6 +112,10 @@ pub fn survey_cells(
         sets: [0; MAX_STATES as usize],
     };
     search(cells, 0, states, &mut numbers, &mut work, homes, &mut taker);
-    counted[..states].copy_from_slice(&taker.sets[..states]);
+    // the states before this one have the set of their component, as its smallest state has it; copied entry by entry, it would be a call of the C library
+    let named = &homes[..states];
+    for (q, home) in named.iter().enumerate() {
+        counted[q] = taker.sets[usize::from(*home)];
+    }
     true
 }
