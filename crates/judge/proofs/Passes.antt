@@ -1,4 +1,5 @@
 -- A word that is read pass by pass, over any transition system.
+--     sums_mapped                                       the sum of some marks is that of their numbers
 --     misses_judged                                     the answer where the lead-in meets a missing transition
 --     underway_next, underway_kept                      one pass more, and its sum
 --     underway_state, underway_count, underway_early    what holds of a word that is being read, and as long as a pass begins at a new place
@@ -17,16 +18,22 @@ use lib.Dec.{eqb, ltb}
 use lib.ListN.{length, get_or, take, drop, set, length-set}
 use lib.Seq.{get_or-set_same, get_or-set_other, drop-cons}
 use borrow.Author.Tests.{eqb-true, eqb-false, ltb-true, ltb-false}
+use Rattle.std.proofs.Common.{map}
+use Rattle.std.proofs.lemmas.List.{drop-map, take-map}
 use Rattle.rules.specs.Basics.{pick, any, SameSet, repeated}
 use Rattle.rules.specs.Systems.{System, Path}
 use Rattle.rules.specs.Runs.{stray_letter, Taken, pass_from, follow, turn, recurring}
 use Rattle.rules.specs.Answers.{accepts, rejects, stops, judged_by}
 use Rattle.rules.proofs.Bools.{by}
 use Rattle.rules.proofs.Pigeonhole.{pigeonhole}
-use Rattle.rules.proofs.Sets.{any_append}
+use Rattle.rules.proofs.Sets.{any_append, any_map}
 use Rattle.rules.proofs.Runs.{path_end, pass_append, turns_below}
 use Rattle.rules.proofs.Judging.{judged_lead, judged_pass, judged_round}
 use Rattle.judge.specs.Passes.{SumsUp, MissesAfter, Begun, SumsKept, WordUnderway}
+
+pub sums_mapped : {M : Type 0} (t : ℕ → ℕ → Bool) (n : M → ℕ) (xs : List M) (d i v : ℕ) → SumsUp t n (take d (drop i xs)) v
+    → SumsUp t (λ x. x) (take d (drop i (map n xs))) v
+sums_mapped t n xs d i v h k = h k ∙ sym (rw (drop-map n i xs, take-map n d (drop i xs)) (any_map (t k) n (take d (drop i xs))))
 
 module _ (s : System) (l : List ℕ) (e : ℕ) where
   module _ (r q : ℕ) (begun : List ℕ) (b : Begun s l e r q begun) where

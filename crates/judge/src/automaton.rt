@@ -1,19 +1,53 @@
 // What the run over a looped word knows of a table, of whatever kind.
 ghost use Rattle.std.specs.Prelude.{◌≡◌, ℕ, ◌<◌, ◌≤◌, Bool, false, List};
+ghost use Rattle.std.proofs.Common.{lit≤};
 ghost use Rattle.rules.specs.Limits.{max_rows};
 ghost use Rattle.rules.specs.Systems.{System};
 ghost use Rattle.rules.specs.Runs.{Taken};
-ghost use Rattle.judge.specs.Passes.{SumsUp, Joins, StepSays};
+ghost use Rattle.judge.specs.Passes.{IsNarrow, SumsUp, Joins, StepSays};
+
+// A mark is a number, no wider than an automaton needs: the run keeps as many as there are places.
+pub trait Number: Copy {
+    ghost value: { Self → ℕ };
+
+    fn zero() -> Self
+        ensures { value result ≡ 0 };
+
+    // So an array of as many as there are places fits in memory.
+    ghost narrow: { IsNarrow Self.row };
+}
+
+impl Number for u8 {
+    ghost value = { λ n. n };
+
+    fn zero() -> u8 {
+        0
+    }
+
+    ghost narrow = { lit≤ tt };
+}
+
+impl Number for u16 {
+    ghost value = { λ n. n };
+
+    fn zero() -> u16 {
+        0
+    }
+
+    ghost narrow = { lit≤ tt };
+}
 
 // Where letters lead, and what the transitions on the way amount to.
 #[derive(Clone, Copy)]
-pub struct Reached {
+pub struct Reached<M> {
     pub place: usize,
-    pub mark: u16,
+    pub mark: M,
 }
 
 // A deterministic automaton with a mark on each transition, and at most ROOM places.
 pub trait Automaton<const ROOM: usize>: Copy {
+    type Mark: Number;
+
     // Its places, letters and targets, and the place where each run begins.
     ghost system: { Self → System };
 
@@ -36,19 +70,19 @@ pub trait Automaton<const ROOM: usize>: Copy {
         ensures { result ≡ start self };
 
     // The transition of a place by a letter, or none where it is missing.
-    fn step(self, place: usize, letter: usize) -> Option<Reached>
+    fn step(self, place: usize, letter: usize) -> Option<Reached<Self::Mark>>
         requires { (place < (system self).states) × (letter < (system self).letters) }
-        ensures { StepSays (system self) (mark self) place letter result };
+        ensures { StepSays Self.Mark.value (system self) (mark self) place letter result };
 
     // Two marks as one.
-    fn join(self, one: u16, other: u16) -> u16
-        ensures { result ≡ join one other };
+    fn join(self, one: Self::Mark, other: Self::Mark) -> Self::Mark
+        ensures { Self.Mark.value result ≡ join (Self.Mark.value one) (Self.Mark.value other) };
 
     // What some marks amount to.
-    fn sum(self, marks: &[u16]) -> u16
-        ensures { SumsUp test (λ x. x) marks.now result }
+    fn sum(self, marks: &[Self::Mark]) -> Self::Mark
+        ensures { SumsUp test Self.Mark.value marks.now (Self.Mark.value result) }
     {
-        let mut sum = 0;
+        let mut sum = Self::Mark::zero();
         // sum is what the marks so far amount to
         for mark in marks {
             sum = self.join(sum, *mark);
@@ -57,8 +91,8 @@ pub trait Automaton<const ROOM: usize>: Copy {
     }
 
     // Whether the transitions are good that a mark sums up.
-    fn accepts(self, sum: u16) -> bool
-        ensures { (xs : List Taken) → SumsUp test (mark self) xs sum → result ≡ good self xs };
+    fn accepts(self, sum: Self::Mark) -> bool
+        ensures { (xs : List Taken) → SumsUp test (mark self) xs (Self.Mark.value sum) → result ≡ good self xs };
 
     // No mark passes no test; and joining is what it is said to be.
     ghost blank: { (i : ℕ) → test i 0 ≡ false };

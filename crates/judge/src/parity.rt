@@ -92,6 +92,8 @@ impl<'a, const ROOM: usize> Parity<'a, ROOM> {
 }
 
 impl<'a, const ROOM: usize> Automaton<ROOM> for Parity<'a, ROOM> {
+    type Mark = u8;
+
     ghost system = { λ a. parity_system a.rows a.letters a.targets.now };
 
     ghost start = { λ a. 0 };
@@ -113,7 +115,7 @@ impl<'a, const ROOM: usize> Automaton<ROOM> for Parity<'a, ROOM> {
     }
 
     // A letter's column of the table is computed while the row is still being loaded.
-    fn step(self, place: usize, letter: usize) -> Option<Reached> {
+    fn step(self, place: usize, letter: usize) -> Option<Reached<u8>> {
         let first = place * self.letters;
         let targets = self.targets;
         let column = &targets[letter..];
@@ -125,15 +127,15 @@ impl<'a, const ROOM: usize> Automaton<ROOM> for Parity<'a, ROOM> {
         let priority = priorities[first + letter];
         Some(Reached {
             place: target,
-            mark: u16::from(priority),
+            mark: priority,
         })
     }
 
-    fn join(self, one: u16, other: u16) -> u16 {
+    fn join(self, one: u8, other: u8) -> u8 {
         one.max(other)
     }
 
-    fn accepts(self, peak: u16) -> bool {
+    fn accepts(self, peak: u8) -> bool {
         peak % 2 == 0
     }
 

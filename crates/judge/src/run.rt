@@ -7,7 +7,7 @@ ghost use Rattle.rules.specs.Runs.{stray_letter};
 ghost use Rattle.judge.specs.Judgements.{answer_of, answer_in};
 ghost use Rattle.judge.specs.Passes.{PieceSays};
 
-use crate::automaton::{Automaton, Reached};
+use crate::automaton::{Automaton, Number, Reached};
 use crate::{Judged, words};
 use rules::refusal::Refusal;
 
@@ -16,12 +16,12 @@ fn read_piece<const ROOM: usize, A: Automaton<ROOM>>(
     automaton: A,
     piece: &[u8],
     from: usize,
-) -> Result<Reached, usize>
+) -> Result<Reached<A::Mark>, usize>
     requires { (stray_letter (A.system automaton).letters piece.now ≡ false) × (from < (A.system automaton).states) }
-    ensures { PieceSays (A.system automaton) A.test (A.mark automaton) from piece.now result }
+    ensures { PieceSays A.Mark.value (A.system automaton) A.test (A.mark automaton) from piece.now result }
 {
     let mut place = from;
-    let mut mark = 0;
+    let mut mark = A::Mark::zero();
     // the first i letters lead from place `from` to `place`, and mark sums up the transitions on the way
     for (i, letter) in piece.iter().enumerate() {
         let Some(next) = automaton.step(place, usize::from(*letter)) else {
@@ -45,7 +45,7 @@ fn run<const ROOM: usize, A: Automaton<ROOM>>(automaton: A, lead: &[u8], looped:
         Err(read) => return Judged::Stops(read as u32),
     };
     let mut begun = [0; ROOM];
-    let mut marks = [0; ROOM];
+    let mut marks = [A::Mark::zero(); ROOM];
     let mut place = entry.place;
     let mut count = lead.len();
     let mut pass = 0;

@@ -24,6 +24,8 @@ pub(crate) struct Rabin<'a> {
 }
 
 impl<'a> Automaton<ROOM> for Rabin<'a> {
+    type Mark = u16;
+
     ghost system = { λ a. system_in a.table.bytes.now };
 
     ghost start = { λ a. (table_of a.table.bytes.now).start };
@@ -46,7 +48,7 @@ impl<'a> Automaton<ROOM> for Rabin<'a> {
 
     // Once the state is known, one product and one read follow: the targets are sliced before, and a letter's column of them while the state is
     // still being loaded.
-    fn step(self, place: usize, letter: usize) -> Option<Reached> {
+    fn step(self, place: usize, letter: usize) -> Option<Reached<u16>> {
         let table = self.table;
         let first = place * table.letters();
         let targets = table.targets();

@@ -4,7 +4,7 @@ use Rattle.judge.proofs.Pieces.{letter_below, read_misses, step_leads}
 use Rattle.judge.proofs.run.read_piece.Goals as goal
 
 pub loop-i-init : goal.loop-i-init
-loop-i-init g c = (c.requires.1, here, g.met.A.Automaton.blank)
+loop-i-init g c = (c.requires.1, here, λ i. rw c.zero-mark.ensures (g.met.A.Automaton.blank i))
 
 pub step-requires : goal.step-requires
 step-requires g c =
@@ -21,4 +21,4 @@ pub loop-i-preserved : goal.loop-i-preserved
 loop-i-preserved g c =
     let a = g.A.Automaton in
     let i = c.loop-i in
-    step_leads (a.system c.args.automaton) a.test (a.mark c.args.automaton) a.join g.met.A.Automaton.joins c.args.from c.args.piece.now c.requires.0 i.i i.place i.mark c.loop-i-test.true i.invariant.1 i.invariant.2 c.from.result c.from.ensures c.in-Some.next c.in-Some.ensures c.join-mark.result c.join-mark.ensures
+    step_leads g.A.Mark.Number.value (a.system c.args.automaton) a.test (a.mark c.args.automaton) a.join g.met.A.Automaton.joins c.args.from c.args.piece.now c.requires.0 i.i i.place (g.A.Mark.Number.value i.mark) c.loop-i-test.true i.invariant.1 i.invariant.2 c.from.result c.from.ensures c.in-Some.next c.in-Some.ensures (g.A.Mark.Number.value c.join-mark.result) c.join-mark.ensures

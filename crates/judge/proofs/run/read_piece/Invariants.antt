@@ -10,4 +10,4 @@ abbrev pub invariant-loop-i : goal.invariant-loop-i
 invariant-loop-i g l =
     let a = g.A.Automaton in
     let s = a.system l.automaton in
-    (l.place < s.states) × Path s l.from (take l.i l.piece) l.place × SumsUp a.test (a.mark l.automaton) (pass_from s l.from (take l.i l.piece)) l.mark
+    (l.place < s.states) × Path s l.from (take l.i l.piece) l.place × SumsUp a.test (a.mark l.automaton) (pass_from s l.from (take l.i l.piece)) (g.A.Mark.Number.value l.mark)

@@ -1,11 +1,12 @@
 -- `judge::run::run` meets its contract.
-use Rattle.std.proofs.Common.{◌≡◌, sym, ◌∙◌, refl, ◌+◌, ◌≤◌, arith, length-set}
+use Rattle.std.proofs.Common.{◌≡◌, sym, ◌∙◌, refl, ◌+◌, ◌-◌, ◌≤◌, arith, length-set, map}
+use Rattle.std.proofs.lemmas.List.{map-set, length-map}
 use Rattle.rules.specs.Answers.{accepts, rejects, judged_by}
 use Rattle.rules.specs.Basics.{pick}
 use Rattle.rules.specs.Limits.{max_rows, max_piece}
 use Rattle.rules.proofs.Refusals.{word_facts}
 use Rattle.judge.proofs.Pieces.{misses_within}
-use Rattle.judge.proofs.Passes.{misses_judged, underway_next, underway_kept, underway_state, underway_count, underway_early, underway_misses, round_earlier, round_decided}
+use Rattle.judge.proofs.Passes.{misses_judged, underway_next, underway_kept, underway_state, underway_count, underway_early, underway_misses, round_earlier, round_decided, sums_mapped}
 use Rattle.judge.proofs.run.run.Given.{Over}
 use Rattle.judge.proofs.run.run.Goals as goal
 use Rattle.judge.proofs.run.run.Goals.{After-accepts}
@@ -50,12 +51,23 @@ bounds-begun-place g c = omega (arith, underway_state c.loop-first.invariant.0)
 pub loop-first-smaller : goal.loop-first-smaller
 loop-first-smaller g c = omega (arith, underway_early c.loop-first.invariant.0 c.loop-first-test.true)
 
+pub listed : goal.listed
+listed g c = omega (arith, underway_early c.loop-first.invariant.0 c.loop-first-test.true)
+
 pub loop-first-preserved : goal.loop-first-preserved
 loop-first-preserved g c =
     let a = g.A.Automaton in
     let inv = c.loop-first.invariant in
     let on = c.in-Ok-read_piece in
-    (underway_next inv.0 c.loop-first-test.true on.reached.place (c.loop-first.pass + 1) on.ensures.path refl, underway_kept inv.0 c.loop-first-test.true a.test (a.mark c.args.automaton) on.reached.mark c.loop-first.marks (omega arith) on.ensures.sums inv.1, simp length-set inv.2, inv.3, inv.4)
+    let n = g.A.Mark.Number.value in
+    let marks = c.loop-first.marks in (
+      underway_next inv.0 c.loop-first-test.true on.reached.place (c.loop-first.pass + 1) on.ensures.path refl,
+      rw (map-set n marks c.loop-first.pass on.reached.mark)
+          (underway_kept inv.0 c.loop-first-test.true a.test (a.mark c.args.automaton) (n on.reached.mark) (map n marks) (omega (arith, length-map marks n)) on.ensures.sums inv.1),
+      simp length-set inv.2,
+      inv.3,
+      inv.4,
+    )
 
 pub offset_bounds-kept-from : goal.offset_bounds-kept-from
 offset_bounds-kept-from g c = omega (arith, round_earlier c.loop-first.invariant.0 c.loop-first-test.false)
@@ -74,7 +86,9 @@ decided g c =
     let x = c.args.automaton in
     let i = c.loop-first in
     let e : c.from-from.result ≡ i.first = c.from-from.ensures in
-    round_decided i.invariant.0 c.loop-first-test.false (a.good x) a.test (a.mark x) i.marks c.sum.result (omega (arith, i.invariant.0.few)) i.invariant.1 (rw e at c.sum.ensures) c.accepts.result c.accepts.ensures
+    let n = g.A.Mark.Number.value in
+    round_decided i.invariant.0 c.loop-first-test.false (a.good x) a.test (a.mark x) (map n i.marks) (n c.sum.result) (omega (arith, i.invariant.0.few, length-map i.marks n)) i.invariant.1
+    (sums_mapped a.test n i.marks (i.pass - (i.first - 1)) (i.first - 1) (n c.sum.result) (rw e at c.sum.ensures)) c.accepts.result c.accepts.ensures
 
 pub returns-then-accepts : goal.returns-then-accepts
 returns-then-accepts g c = sym (decided g (goal.at.returns-then-accepts g c).After-accepts ∙ rw c.if-accepts.true)

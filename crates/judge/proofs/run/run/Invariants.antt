@@ -1,5 +1,5 @@
 -- `judge::run::run` meets its contract. The invariant: the word is underway, of each pass the mark is kept, and there is room for the places.
-use Rattle.std.proofs.Common.{◌≡◌, ◌-◌, ◌≤◌, length}
+use Rattle.std.proofs.Common.{◌≡◌, ◌-◌, ◌≤◌, length, map}
 use Rattle.rules.specs.Limits.{max_rows}
 use Rattle.judge.specs.Passes.{SumsKept, WordUnderway}
 use Rattle.judge.proofs.run.run.Given as goal
@@ -9,7 +9,7 @@ invariant-loop-first g l =
     let a = g.A.Automaton in
     let s = a.system l.automaton in
     WordUnderway s (a.start l.automaton) l.lead l.looped l.initial.place l.pass l.place l.count l.first l.begun
-    × SumsKept s l.looped l.initial.place a.test (a.mark l.automaton) l.pass l.marks
+    × SumsKept s l.looped l.initial.place a.test (a.mark l.automaton) l.pass (map g.A.Mark.Number.value l.marks)
     × (length l.marks ≡ g.row.ROOM) × (s.states ≤ g.row.ROOM) × (g.row.ROOM ≤ max_rows)
 
 abbrev pub decreases-loop-first : goal.decreases-loop-first

@@ -4,4 +4,4 @@ use Rattle.judge.specs.Passes.{SumsUp}
 use Rattle.judge.proofs.automaton.Automaton.sum.Given as goal
 
 abbrev pub invariant-loop-mark : goal.invariant-loop-mark
-invariant-loop-mark g l = SumsUp g.Self.Automaton.test (λ x. x) (take l.mark-index l.marks) l.sum
+invariant-loop-mark g l = SumsUp g.Self.Automaton.test g.Self.Mark.Number.value (take l.mark-index l.marks) (g.Self.Mark.Number.value l.sum)
