@@ -59,11 +59,11 @@ module _ (s : System) (p : ℕ) (w : List ℕ) (i q : ℕ) (a : Path s p (take i
         (sums_more t g j joins (pass_from s p (take i w)) (taken q (get_or w i 0)) u h)
 
 -- a letter's transition that is there
-pub step_leads : {M : Type 0} (n : M → ℕ) (s : System) (t : ℕ → ℕ → Bool) (g : Taken → ℕ) (j : ℕ → ℕ → ℕ) → Joins t j → (p : ℕ) (w : List ℕ) → stray_letter s.letters w ≡ false
+pub step_leads : {M : Type 0} (f : M → ℕ) (s : System) (t : ℕ → ℕ → Bool) (g : Taken → ℕ) (j : ℕ → ℕ → ℕ) → Joins t j → (p : ℕ) (w : List ℕ) → stray_letter s.letters w ≡ false
     → (i q u : ℕ) → i < length w → Path s p (take i w) q → SumsUp t g (pass_from s p (take i w)) u
-    → (a : ℕ) → a ≡ get_or w i 0 → (x : Reached M) → TransitionIs n s g q a x → (v : ℕ) → v ≡ j u (n x.mark)
+    → (a : ℕ) → a ≡ get_or w i 0 → (x : Reached M) → TransitionIs f s g q a x → (v : ℕ) → v ≡ j u (f x.mark)
     → (x.place < s.states) × Path s p (take (i + 1) w) x.place × SumsUp t g (pass_from s p (take (i + 1) w)) v
-step_leads n s t g j joins p w ok i q u l path sums a e x on v f =
+step_leads _ s t g j joins p w ok i q u l path sums a e x on v f =
     let there : x.place ≡ s.go q (get_or w i 0) = on.place ∙ ap (s.go q) e in
     let mark : v ≡ j u (g (taken q (get_or w i 0))) = f ∙ ap (j u) (on.mark ∙ ap (λ (b : ℕ). g (taken q b)) e) in
     (on.below, rw there (piece_more s p w i q path l (letter_below s.letters w ok i l) (rw there at on.below)), rw mark (sums_letter s p w i q path l t g j joins u sums))

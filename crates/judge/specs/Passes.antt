@@ -2,13 +2,13 @@
 --     SumsUp t g xs v                                    claim: v sums up the numbers g x for the x of xs: it passes the test t i exactly if one of them does. With the
 --                                                        tests `ltb` it is the largest of them, with the tests `bit` the union of sets
 --     Joins t j                                          claim: what j joins of two numbers passes the test t i exactly if one of the two does
---     IsNarrow R                                         claim: a value of the type takes at most 8 bytes
+--     FewBytes R                                         claim: a value of the type R takes at most 8 bytes
 --     MissesAfter s p w n                                claim: reading w from p meets a missing transition after n letters
---     TransitionIs n s g p a x                           claim: the transition of p by a is there, leads to the place of x, and has the mark of x as its number by g;
---                                                        n says which number a mark is
---     StepSays n s g p a x                               claim: that of what x has, or x is none and the transition is missing
---     PieceLeads n s t g p w x                           claim: reading w from p leads to the place of x, and the mark of x sums up the transitions taken
---     PieceSays n s t g p w x                            claim: that of what x has, or a missing transition is met after as many letters as x says
+--     TransitionIs f s g p a x                           claim: the transition of p by a is there, leads to the place of x, and has the mark of x as its number by g;
+--                                                        f says which number a mark is
+--     StepSays f s g p a x                               claim: that of what x has, or x is none and the transition is missing
+--     PieceLeads f s t g p w x                           claim: reading w from p leads to the place of x, and the mark of x sums up the transitions taken
+--     PieceSays f s t g p w x                            claim: that of what x has, or a missing transition is met after as many letters as x says
 --     Begun s l e r q begun                              claim: r passes have been read from e on and led to q; begun has, for each place where one of them began, one
 --                                                        more than its number, and 0 for the other places
 --     SumsKept s l e t g r vs                            claim: for each of r passes, vs sums up the transitions that it takes
@@ -28,30 +28,30 @@ SumsUp t g xs v = (i : ℕ) → t i v ≡ any (λ x. t i (g x)) xs
 abbrev pub Joins : (ℕ → ℕ → Bool) → (ℕ → ℕ → ℕ) → Type 0
 Joins t j = (i u v : ℕ) → t i (j u v) ≡ t i u || t i v
 
-abbrev pub IsNarrow : RattleType → Type 0
-IsNarrow R = type_size R ≤ 8
+abbrev pub FewBytes : RattleType → Type 0
+FewBytes R = type_size R ≤ 8
 
 pub record MissesAfter (s : System) (p : ℕ) (w : List ℕ) (n : ℕ) : Type 0 where
   pub stop : Stop s p w
   pub count : length stop.before ≡ n
 
-pub record TransitionIs {M : Type 0} (n : M → ℕ) (s : System) (g : Taken → ℕ) (p a : ℕ) (x : Reached M) : Type 0 where
+pub record TransitionIs {M : Type 0} (f : M → ℕ) (s : System) (g : Taken → ℕ) (p a : ℕ) (x : Reached M) : Type 0 where
   pub place : x.place ≡ s.go p a
   pub below : x.place < s.states
-  pub mark : n x.mark ≡ g (taken p a)
+  pub mark : f x.mark ≡ g (taken p a)
 
 abbrev pub StepSays : {M : Type 0} → (M → ℕ) → System → (Taken → ℕ) → ℕ → ℕ → Option (Reached M) → Type 0
-StepSays n s g p a None = s.states ≤ s.go p a
-StepSays n s g p a (Some x) = TransitionIs n s g p a x
+StepSays f s g p a None = s.states ≤ s.go p a
+StepSays f s g p a (Some x) = TransitionIs f s g p a x
 
-pub record PieceLeads {M : Type 0} (n : M → ℕ) (s : System) (t : ℕ → ℕ → Bool) (g : Taken → ℕ) (p : ℕ) (w : List ℕ) (x : Reached M) : Type 0 where
+pub record PieceLeads {M : Type 0} (f : M → ℕ) (s : System) (t : ℕ → ℕ → Bool) (g : Taken → ℕ) (p : ℕ) (w : List ℕ) (x : Reached M) : Type 0 where
   pub path : Path s p w x.place
   pub below : x.place < s.states
-  pub sums : SumsUp t g (pass_from s p w) (n x.mark)
+  pub sums : SumsUp t g (pass_from s p w) (f x.mark)
 
 abbrev pub PieceSays : {M : Type 0} → (M → ℕ) → System → (ℕ → ℕ → Bool) → (Taken → ℕ) → ℕ → List ℕ → Result (Reached M) ℕ → Type 0
-PieceSays n s t g p w (Ok x) = PieceLeads n s t g p w x
-PieceSays n s t g p w (Err k) = MissesAfter s p w k
+PieceSays f s t g p w (Ok x) = PieceLeads f s t g p w x
+PieceSays f s t g p w (Err n) = MissesAfter s p w n
 
 pub record Begun (s : System) (l : List ℕ) (e r q : ℕ) (begun : List ℕ) : Type 0 where
   pub here : turn s l r e ≡ q

@@ -4,17 +4,18 @@ ghost use Rattle.std.proofs.Common.{lit≤};
 ghost use Rattle.rules.specs.Limits.{max_rows};
 ghost use Rattle.rules.specs.Systems.{System};
 ghost use Rattle.rules.specs.Runs.{Taken};
-ghost use Rattle.judge.specs.Passes.{IsNarrow, SumsUp, Joins, StepSays};
+ghost use Rattle.judge.specs.Passes.{FewBytes, SumsUp, Joins, StepSays};
 
-// A mark is a number, no wider than an automaton needs: the run keeps as many as there are places.
+// A type of numbers, for the marks of an automaton: the run keeps a mark for each place, so they are no wider than they need to be.
 pub trait Number: Copy {
+    // The number that a value is.
     ghost value: { Self → ℕ };
 
     fn zero() -> Self
         ensures { value result ≡ 0 };
 
-    // So an array of as many as there are places fits in memory.
-    ghost narrow: { IsNarrow Self.row };
+    // So an array with one for each place fits in memory.
+    ghost few_bytes: { FewBytes Self.row };
 }
 
 impl Number for u8 {
@@ -24,7 +25,7 @@ impl Number for u8 {
         0
     }
 
-    ghost narrow = { lit≤ tt };
+    ghost few_bytes = { lit≤ tt };
 }
 
 impl Number for u16 {
@@ -34,7 +35,7 @@ impl Number for u16 {
         0
     }
 
-    ghost narrow = { lit≤ tt };
+    ghost few_bytes = { lit≤ tt };
 }
 
 // Where letters lead, and what the transitions on the way amount to.
@@ -46,6 +47,7 @@ pub struct Reached<M> {
 
 // A deterministic automaton with a mark on each transition, and at most ROOM places.
 pub trait Automaton<const ROOM: usize>: Copy {
+    // What a transition's mark is kept in.
     type Mark: Number;
 
     // Its places, letters and targets, and the place where each run begins.

@@ -35,8 +35,8 @@ pub fn word_fault(m: u8, lead: &[u8], looped: &[u8]) -> Result<(), Refusal>
     Ok(())
 }
 
-// A table's refusal comes before the word's: both are numbers, 0 for none, for a caller who has them as they go out to C. The judges here leave at the
-// first refusal instead.
+// A table's refusal comes before the word's, for a caller who has both as numbers, 0 for none. The judges
+// leave at the first refusal instead.
 pub fn first_fault(table: u8, word: u8) -> u8
     ensures { result ≡ first_of table word }
 {

@@ -20,8 +20,8 @@ fn put_byte(out: &mut [u8], at: usize, byte: u8) -> usize
     at.saturating_add(1)
 }
 
-// Writes a number in decimal: the digits before the last, then the last. The place is a value that is handed on, so that it stays in a register from digit
-// to digit: a writer that the recursion borrows would lie in memory.
+// Writes a number in decimal: the digits before the last, then the last. The place is handed on as a value, so that it stays in a
+// register from digit to digit: a writer that the recursion borrows would lie in memory.
 // By hand: `write!` promises what it wrote only where it answers `Ok`, and it does not promise that answer.
 fn put_numeral(out: &mut [u8], at: usize, n: u32) -> usize
     ensures { InReach at (numeral n) → Wrote at (numeral n) out.old out.new result }

@@ -4,6 +4,7 @@
 --     laid_go, go_laid                  the system in the array of targets has the table's transitions, and no others
 --     is_table                          a well-formed table has sizes in range
 --     laid_homes_at, laid_homes         its components are the table's
+--     same_bits                         sets of the same bits are the same
 --     laid_counts, laid_counted         what its inside transitions require is what counts in the table
 use mathlib.Core.Path.{◌≡◌, refl, sym, ap, ◌∙◌}
 use mathlib.Core.Bool.{Bool, false}

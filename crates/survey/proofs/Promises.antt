@@ -6,7 +6,7 @@
 --     homes_found                        the homes in the targets that are laid out are the table's components
 --     front_few, front_at, front_is      the part of an array that a list is at the front of
 --     survey_room                        what holds where a survey fits
---     survey_done                        what a survey promises, where it is done
+--     home_few, survey_done              where it is done: the homes are places of the sets; what a survey promises
 use mathlib.Core.Path.{◌≡◌, refl, sym, ap, ◌∙◌}
 use mathlib.Core.Bool.{Bool, true, false, ◌&&◌, ◌||◌}
 use mathlib.Core.List.{List}

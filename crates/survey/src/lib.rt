@@ -112,7 +112,8 @@ pub fn survey_cells(
         sets: [0; MAX_STATES as usize],
     };
     search(cells, 0, states, &mut numbers, &mut work, homes, &mut taker);
-    // the states before this one have the set of their component, as its smallest state has it; copied entry by entry, it would be a call of the C library
+    // the states before this one have the set of their component, read at its smallest state: a loop that only copied the sets would become a call
+    // of the C library
     let named = &homes[..states];
     for (q, home) in named.iter().enumerate() {
         counted[q] = taker.sets[usize::from(*home)];
