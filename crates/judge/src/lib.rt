@@ -62,14 +62,16 @@ const SMALL_ROWS: usize = 64;
 
 const MIDDLE_ROWS: usize = 1024;
 
-// The answer of a table of any size, or the refusal of the word. It is a call of its own, so that a small table makes no room for large arrays.
+// The answer of a table with more than a few rows, or the refusal of the word. It is a call of its own for each size, so that a smaller table makes no
+// room for larger arrays, and so that the run's loop has registers enough.
 #[inline(never)]
-fn judge_larger(table: Parity<'_, MAX_ROWS>, lead: &[u8], looped: &[u8]) -> Result<Judged, Refusal>
+fn judge_larger<const ROOM: usize>(
+    table: Parity<'_, ROOM>,
+    lead: &[u8],
+    looped: &[u8],
+) -> Result<Judged, Refusal>
     ensures { ParitySays table.entry.rows table.entry.letters table.entry.targets.now table.entry.priorities.now lead.now looped.now (answer_in result) }
 {
-    if let Some(middle) = table.within::<MIDDLE_ROWS>() {
-        return judge_word(middle, lead, looped);
-    }
     judge_word(table, lead, looped)
 }
 
@@ -87,6 +89,9 @@ fn answer_or_refusal(
     let table = Parity::check(rows, letters, targets, priorities)?;
     if let Some(small) = table.within::<SMALL_ROWS>() {
         return judge_word(small, lead, looped);
+    }
+    if let Some(middle) = table.within::<MIDDLE_ROWS>() {
+        return judge_larger(middle, lead, looped);
     }
     judge_larger(table, lead, looped)
 }
